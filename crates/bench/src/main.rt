@@ -25,7 +25,6 @@ mod texts;
 ghost use Rattle.std.specs.Prelude.{◌+◌, ◌≤◌, length};
 
 use bytes_decimal::ReadU64;
-use bytes_wire::ReadU32;
 use std::io;
 
 // The most bytes of the input.
@@ -38,8 +37,8 @@ fn set_length(rest: &[u8]) -> usize
 {
     let room = rest.len() - 4;
     match bytes_wire::read_u32_at(rest, 0) {
-        ReadU32::Read(n) => { if n as usize <= room { n as usize } else { 0 } }
-        ReadU32::Short => 0,
+        Some(n) => { if n as usize <= room { n as usize } else { 0 } }
+        None => 0,
     }
 }
 

@@ -1,13 +1,22 @@
 -- What an answer says of the bytes, once for every width; and that reading gives back what was written.
-use Rattle.std.specs.Prelude.{ℕ, ◌+◌, ◌-◌, ◌^◌, ◌≤◌, ◌<◌, Bool, List, ◌++◌, ℤ, length, take, drop, if◌then◌else◌}
+use Rattle.std.specs.Prelude.{ℕ, ◌+◌, ◌-◌, ◌/◌, ◌^◌, ◌≤◌, ◌<◌, Bool, List, [], ◌∷◌, ◌++◌, ℤ, length, take, drop, if◌then◌else◌, slice_range}
+use Rattle.std.specs.Prelude.{suc}
+use Rattle.std.specs.Prelude as code
+use Rattle.std.specs.Array.{IsFirstChunk}
+use Rattle.std.specs.Slice.{IsItemAt}
 use Rattle.std.proofs.Math.Path.{◌≡◌, refl}
-use Rattle.std.proofs.Common.{sym, ap₂, ◌∙◌, arith, length-append, take-append-drop, take_at, drop-drop, length-take-le, to_z}
+use Rattle.std.proofs.Common.{sym, ap, ap₂, ◌∙◌, arith, length-append, take-append-drop, take_at, drop-drop, length-take-le, to_z}
 use Rattle.std.proofs.Math.Bool.{true, false}
 use Rattle.std.proofs.Math.Option.{none, some, map-eq-some_iff, map-eq-none_iff}
-use borrow.Author.Tests.{leb-true, leb-false, le-leb}
+use borrow.Author.Tests.{leb-true, leb-false, le-leb, lt-leb}
 use Rattle.std.proofs.Math.Dec.{leb}
 use Rattle.std.proofs.Math.ListN.{length-drop}
-use Rattle.std.specs.Int.{w64}
+use Rattle.std.proofs.Math.Seq.{drop-cons}
+use Rattle.std.proofs.lemmas.List.{take_all}
+use Rattle.std.proofs.Common.{Bor}
+use Rattle.std.specs.Option.{option_copied}
+use Rattle.spec_lists.specs.Options.{optional_of}
+use Rattle.std.specs.Int.{w32, w64, from_le_bytes, to_le_bytes}
 use Rattle.spec_lists.specs.Bytes.{Bytes, little_endian, number_of}
 use Rattle.spec_lists.proofs.BytesLaws.{bytes_take, bytes_drop, length_little_endian, number_of_lt, number_of_little_endian, little_endian_number_of}
 use Rattle.bytes_wire.specs.Read.{first_number, first_signed}
@@ -59,6 +68,67 @@ module _ (l : List ℕ) (at n : ℕ) where
       go : (t : Bool) → leb n (length (drop at l)) ≡ t → (if t then some (number_of (take n (drop at l))) else none) ≡ none → ShortAt
       go true is q = absurd (let z : ◌≡◌ {A = ℕ} 0 1 = cc in omega arith)
       go false is q = record { none_left = omega (arith, leb-false n (length (drop at l)) is, length-drop at l); too_few = is }
+
+-- ---- the library's numbers of four and of eight bytes
+
+number_of_four : (bs : List ℕ) → length bs ≡ 4 → from_le_bytes w32 bs ≡ number_of bs
+unfolding number_of
+number_of_four (a ∷ b ∷ c ∷ d ∷ []) e = omega arith
+number_of_four bs e = absurd (omega arith)
+
+number_of_eight : (bs : List ℕ) → length bs ≡ 8 → from_le_bytes w64 bs ≡ number_of bs
+unfolding number_of
+number_of_eight (a ∷ b ∷ c ∷ d ∷ e ∷ f ∷ g ∷ h ∷ []) q = omega arith
+number_of_eight bs q = absurd (omega arith)
+
+first_of_one : (b : ℕ) (bs : List ℕ) → first_number 1 (b ∷ bs) ≡ some b
+unfolding first_number number_of
+first_of_one b bs = rw (le-leb 1 (length (b ∷ bs)) (omega arith)) (ap some (omega arith))
+
+module _ (l : List ℕ) (at : ℕ) where
+  pub none_beyond : (n : ℕ) → length l - at < n → first_number n (drop at l) ≡ none
+  unfolding first_number
+  none_beyond n h = rw (lt-leb n (length (drop at l)) (omega (arith, length-drop at l)))
+
+  -- the first n bytes of what stands from index at on, as the library hands them out
+  chunk_number : (n : ℕ) {part bs : List ℕ} → part ≡ slice_range l at (length l) → IsFirstChunk part bs n → (length bs ≡ n) × (first_number n (drop at l) ≡ some (number_of bs))
+  unfolding first_number
+  chunk_number n {part} {bs} from chunk =
+      let whole : part ≡ drop at l = from ∙ take_all (length l - at) (drop at l) (omega (arith, length-drop at l)) in
+      let enough : n ≤ length (drop at l) = rw whole at chunk.enough in
+      let front : take n (drop at l) ≡ bs = ap (take n) (sym whole) ∙ sym chunk.same in
+      (sym (ap length front) ∙ length-take-le n (drop at l) enough, rw (le-leb n (length (drop at l)) enough, front))
+
+  pub four_at : {part bs : List ℕ} → part ≡ slice_range l at (length l) → IsFirstChunk part bs 4 → some (from_le_bytes w32 bs) ≡ first_number 4 (drop at l)
+  four_at from chunk = let found = chunk_number 4 from chunk in ap some (number_of_four _ found.0) ∙ sym found.1
+
+  pub eight_at : {part bs : List ℕ} → part ≡ slice_range l at (length l) → IsFirstChunk part bs 8 → some (from_le_bytes w64 bs) ≡ first_number 8 (drop at l)
+  eight_at from chunk = let found = chunk_number 8 from chunk in ap some (number_of_eight _ found.0) ∙ sym found.1
+
+  -- the first byte, as the library hands it out
+  pub one_at : (r : code.Option (Bor ℕ)) → IsItemAt l at r → optional_of (option_copied r) ≡ first_number 1 (drop at l)
+  one_at (code.Some x) h =
+      let here : drop at l ≡ x.now ∷ drop (suc at) l = drop-cons l at x.now h.3.0 ∙ ap (λ (b : ℕ). b ∷ drop (suc at) l) (sym h.1) in
+      sym (rw here (first_of_one x.now (drop (suc at) l)))
+  one_at code.None h = sym (none_beyond 1 (omega (arith, h.3)))
+
+pub four_bytes : (x : ℕ) → to_le_bytes w32 x ≡ little_endian 4 x
+unfolding little_endian
+four_bytes x =
+    let b : x / 65536 ≡ x / 256 / 256 = omega arith in
+    let c : x / 16777216 ≡ x / 256 / 256 / 256 = omega arith in
+    cc
+
+pub eight_bytes : (x : ℕ) → to_le_bytes w64 x ≡ little_endian 8 x
+unfolding little_endian
+eight_bytes x =
+    let b : x / 65536 ≡ x / 256 / 256 = omega arith in
+    let c : x / 16777216 ≡ x / 65536 / 256 = omega arith in
+    let d : x / 4294967296 ≡ x / 16777216 / 256 = omega arith in
+    let e : x / 1099511627776 ≡ x / 4294967296 / 256 = omega arith in
+    let f : x / 281474976710656 ≡ x / 1099511627776 / 256 = omega arith in
+    let g : x / 72057594037927936 ≡ x / 281474976710656 / 256 = omega arith in
+    cc
 
 -- ---- the same of an i64
 

@@ -1,7 +1,8 @@
 -- What writing leaves: the bytes in place where there is room, else the list as it was; and writing one thing behind another is writing both.
-use Rattle.std.specs.Prelude.{ℕ, ◌+◌, ◌≤◌, ◌<◌, ◌≡◌, refl, Bool, true, false, List, ◌++◌, length, take, drop}
+use Rattle.std.specs.Prelude.{ℕ, ◌+◌, ◌-◌, leb, ◌≤◌, ◌<◌, ◌≡◌, refl, Bool, true, false, List, ◌++◌, length, take, drop}
 use Rattle.std.proofs.Common.{sym, ap, ap₂, ◌∙◌, append_assoc, arith, length-append, take_at, drop_at, drop-drop, length-take-le}
 use borrow.Author.Tests.{leb-true, le-leb, lt-leb}
+use borrow.Rule.Slice.PartMut.{put_mid}
 use Rattle.std.proofs.lemmas.List.Edits.{length-paste}
 use Rattle.std.proofs.Math.Seq.{take-length}
 use Rattle.bytes_wire.specs.Write.{has_room, overwrite}
@@ -33,6 +34,17 @@ module _ (l : List ℕ) (at : ℕ) (bs : List ℕ) (n : ℕ) (long : length bs �
   overwrite_refused h = rw (long, h)
 
 module _ (l : List ℕ) (at : ℕ) (bs : List ℕ) where
+  -- the bytes copied into the part of the list from index at on
+  pub overwrite_part : {new : List ℕ} → new ≡ bs → true ≡ leb (at + length bs) (length l) → put_mid at (at + length bs - at) l new ≡ overwrite l at bs
+  unfolding has_room
+  overwrite_part {new} same room =
+      let width : at + length bs - at ≡ length bs = omega arith in
+      ap (λ (k : ℕ). put_mid at k l new) width
+      ∙ ap (put_mid at (length bs) l) same
+      ∙ ap (λ (s : List ℕ). take at l ++ (bs ++ s)) (drop-drop (length bs) at l)
+      ∙ sym (append_assoc (take at l) bs (drop (at + length bs) l))
+      ∙ sym (overwrite_in_place l at bs (length bs) refl (sym room))
+
   pub length_overwrite : length (overwrite l at bs) ≡ length l
   length_overwrite = go (has_room l at (length bs)) refl
     where

@@ -9,7 +9,6 @@ ghost use Rattle.patch_locate.specs.Answers.{reading_rule_of, located_answer};
 ghost use Rattle.patch_locate.specs.Fields.{field_at_most, text_after, field_of, fields_of};
 
 use crate::rules::{Inside, Located, ReadingRule};
-use bytes_wire::ReadU32;
 use projection_patch::patch::{ProjectionPatchEdition, ProjectionPatchValue};
 use projection_patch::text_rule::TextJudgement;
 use projection_patch::{read_values, text_rule};
@@ -91,8 +90,8 @@ fn text_at(part: &[u8], at: usize) -> Located
     ensures { result ≡ located_answer (length part.now) (locate_text (drop at part.now)) }
 {
     match bytes_wire::read_u32_at(part, at) {
-        ReadU32::Read(len) => text_from(part, at, len as usize),
-        ReadU32::Short => stop_at(part.len(), at, ReadingRule::TooFewBytes),
+        Some(len) => text_from(part, at, len as usize),
+        None => stop_at(part.len(), at, ReadingRule::TooFewBytes),
     }
 }
 

@@ -10,7 +10,6 @@ ghost use Rattle.patch_locate.specs.Fields.{operation_in, patch_fields};
 
 use crate::fields;
 use crate::rules::{Inside, Located, ReadingRule};
-use bytes_wire::ReadU32;
 use projection_patch::patch::{ProjectionPatch, ProjectionPatchEdition, ProjectionPatchSet};
 
 // A set that is read, or the rule, the place and the position of the field at which its reading stops.
@@ -71,7 +70,7 @@ fn operations_counted(
 ) -> Located
     ensures { result ≡ located_answer (length set.now) (counted operation_count_lem patch_operations (operation_in (edition_of edition) patch) (drop at set.now)) }
 {
-    let ReadU32::Read(count) = bytes_wire::read_u32_at(set, at) else {
+    let Some(count) = bytes_wire::read_u32_at(set, at) else {
         return fields::stop_at(set.len(), at, ReadingRule::TooFewBytes);
     };
     if count as usize <= ProjectionPatch::OPERATIONS {
@@ -117,7 +116,7 @@ fn patches_at(set: &[u8], at: usize, count: usize, edition: ProjectionPatchEditi
 fn patches_counted(set: &[u8], at: usize, edition: ProjectionPatchEdition) -> Located
     ensures { result ≡ located_answer (length set.now) (counted patch_count set_patches (locate_patch (edition_of edition)) (drop at set.now)) }
 {
-    let ReadU32::Read(count) = bytes_wire::read_u32_at(set, at) else {
+    let Some(count) = bytes_wire::read_u32_at(set, at) else {
         return fields::stop_at(set.len(), at, ReadingRule::TooFewBytes);
     };
     if count as usize <= ProjectionPatchSet::PATCHES {

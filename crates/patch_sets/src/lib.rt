@@ -10,7 +10,6 @@ ghost use Rattle.patch_sets.specs.Walk.{read_head, read_heading};
 ghost use Rattle.projection_patch.specs.ReadAnswers.{optional_of, count_answer};
 ghost use Rattle.patch_sets.specs.SetAnswers.{envelope_answer, head_answer};
 
-use bytes_wire::{ReadU32, ReadU64};
 use projection_patch::contract_primitives::{Epoch, Revision, StaticDocumentId, StaticSurfaceId};
 use projection_patch::patch::{
     OptionalSurfaceId, ProjectionPatch, ProjectionPatchEdition, ProjectionPatchEnvelope,
@@ -73,7 +72,7 @@ fn envelope(part: &[u8]) -> EnvelopeRead
     let NumbersRead::Read(patch, stream) = read_values::numbers_at(part, 0) else {
         return EnvelopeRead::Refused(ProjectionPatchReadFault::Malformed);
     };
-    let ReadU64::Read(document) = bytes_wire::read_u64_at(part, widths::TWO_IDS) else {
+    let Some(document) = bytes_wire::read_u64_at(part, widths::TWO_IDS) else {
         return EnvelopeRead::Refused(ProjectionPatchReadFault::Malformed);
     };
     let OptionalRead::Read(surface, at) = read_values::optional_at(part, widths::THREE_IDS) else {
@@ -139,7 +138,7 @@ fn has_letters(set: &[u8], edition: ProjectionPatchEdition) -> bool
 pub fn read_heading(set: &[u8], edition: ProjectionPatchEdition) -> CountRead
     ensures { result ≡ count_answer (length set.now) (read_heading (edition_of edition) set.now) }
 {
-    let ReadU32::Read(letters) = bytes_wire::read_u32_at(set, 0) else {
+    let Some(letters) = bytes_wire::read_u32_at(set, 0) else {
         return CountRead::Refused(ProjectionPatchReadFault::Malformed);
     };
     if letters != 27 {

@@ -11,14 +11,10 @@ use lib.Dec.{lit<}
 use lib.IntN.{ℤ}
 use Rattle.spec_patch.specs.Reader.{Fault, read, refused, malformed, Result, Reader, onward, pair, byte, number}
 use Rattle.spec_patch.specs.Read.{read_u32, read_u64, read_i64}
-use Rattle.bytes_wire.specs.Read.{first_number, first_signed, number_u32, number_u64, number_i64}
+use Rattle.bytes_wire.specs.Read.{first_number, first_signed}
 use Rattle.bytes_wire.proofs.ReadLaws as wire
-use Rattle.bytes_wire.specs.declared.ReadU32.{ReadU32}
-use Rattle.bytes_wire.specs.declared.ReadU32.TheVariants as U32
-use Rattle.bytes_wire.specs.declared.ReadU64.{ReadU64}
-use Rattle.bytes_wire.specs.declared.ReadU64.TheVariants as U64
-use Rattle.bytes_wire.specs.declared.ReadI64.{ReadI64}
-use Rattle.bytes_wire.specs.declared.ReadI64.TheVariants as I64
+use Rattle.std.specs.Prelude as code
+use Rattle.spec_lists.specs.Options.{optional_of}
 use Rattle.projection_patch.specs.ReadAnswers.{numbers_answer}
 use Rattle.projection_patch.specs.declared.read_values.NumbersRead.{NumbersRead}
 use Rattle.projection_patch.specs.declared.read_values.NumbersRead.TheVariants as numbers-read
@@ -48,29 +44,29 @@ module _ (l : List ℕ) (at : ℕ) where
   pub number_missing : (n : ℕ) → none ≡ first_number n (drop at l) → number n (drop at l) ≡ refused malformed
   number_missing n e = rw (wire.short_at l at n (sym e)).too_few
 
-  pub u64_at : (x : ℕ) (r : ReadU64) → number_u64 r ≡ first_number 8 (drop at l) → r ≡ U64.Read x → NumberAt 8 x
-  u64_at x r e f = number_here 8 x (lit< tt) (sym (ap number_u64 f) ∙ e)
+  pub u64_at : (x : ℕ) (r : code.Option ℕ) → optional_of r ≡ first_number 8 (drop at l) → r ≡ code.Some x → NumberAt 8 x
+  u64_at x r e f = number_here 8 x (lit< tt) (sym (ap optional_of f) ∙ e)
 
-  pub u64_short : (r : ReadU64) → number_u64 r ≡ first_number 8 (drop at l) → r ≡ U64.Short → read_u64 (drop at l) ≡ refused malformed
-  u64_short r e f = number_missing 8 (sym (ap number_u64 f) ∙ e)
+  pub u64_short : (r : code.Option ℕ) → optional_of r ≡ first_number 8 (drop at l) → r ≡ code.None → read_u64 (drop at l) ≡ refused malformed
+  u64_short r e f = number_missing 8 (sym (ap optional_of f) ∙ e)
 
-  pub u32_at : (x : ℕ) (r : ReadU32) → number_u32 r ≡ first_number 4 (drop at l) → r ≡ U32.Read x → NumberAt 4 x
-  u32_at x r e f = number_here 4 x (lit< tt) (sym (ap number_u32 f) ∙ e)
+  pub u32_at : (x : ℕ) (r : code.Option ℕ) → optional_of r ≡ first_number 4 (drop at l) → r ≡ code.Some x → NumberAt 4 x
+  u32_at x r e f = number_here 4 x (lit< tt) (sym (ap optional_of f) ∙ e)
 
-  pub u32_short : (r : ReadU32) → number_u32 r ≡ first_number 4 (drop at l) → r ≡ U32.Short → read_u32 (drop at l) ≡ refused malformed
-  u32_short r e f = number_missing 4 (sym (ap number_u32 f) ∙ e)
+  pub u32_short : (r : code.Option ℕ) → optional_of r ≡ first_number 4 (drop at l) → r ≡ code.None → read_u32 (drop at l) ≡ refused malformed
+  u32_short r e f = number_missing 4 (sym (ap optional_of f) ∙ e)
 
   pub record IntegerAt (z : ℤ) : Type 0 where
     pub room : at + 8 ≤ length l
     pub is : read_i64 (drop at l) ≡ read z (drop (at + 8) l)
 
-  pub i64_at : (z : ℤ) (r : ReadI64) → number_i64 r ≡ first_signed (drop at l) → r ≡ I64.Read z → IntegerAt z
+  pub i64_at : (z : ℤ) (r : code.Option ℤ) → optional_of r ≡ first_signed (drop at l) → r ≡ code.Some z → IntegerAt z
   i64_at z r e f =
-      let w = wire.signed_at l at z (sym e ∙ ap number_i64 f) in
+      let w = wire.signed_at l at z (sym e ∙ ap optional_of f) in
       record { room = omega (arith, w.read.room); is = rw (w.read.enough, w.read.number, w.is, drop-drop 8 at l) }
 
-  pub i64_short : (r : ReadI64) → number_i64 r ≡ first_signed (drop at l) → r ≡ I64.Short → read_i64 (drop at l) ≡ refused malformed
-  i64_short r e f = rw (wire.signed_short_at l at (sym e ∙ ap number_i64 f)).too_few
+  pub i64_short : (r : code.Option ℤ) → optional_of r ≡ first_signed (drop at l) → r ≡ code.None → read_i64 (drop at l) ≡ refused malformed
+  i64_short r e f = rw (wire.signed_short_at l at (sym e ∙ ap optional_of f)).too_few
 
 -- ---- two numbers, one behind the other
 

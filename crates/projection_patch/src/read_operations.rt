@@ -17,7 +17,6 @@ use crate::read_values::{
     ValueRead,
 };
 use crate::{read_values, widths};
-use bytes_wire::{ReadU32, ReadU64};
 
 // An operation, and how many bytes it took. The place of its text counts from the start of the part.
 #[derive(Drop)]
@@ -71,10 +70,10 @@ fn same_value(value: ProjectionPatchValue) -> ProjectionPatchValue
 fn set_binding_value(part: &[u8], strict: bool, edition: ProjectionPatchEdition) -> OperationRead
     ensures { result ≡ operation_answer (length part.now) (operation_after strict (edition_of edition) 1 (drop 1 part.now)) }
 {
-    let ReadU64::Read(node) = bytes_wire::read_u64_at(part, 1) else {
+    let Some(node) = bytes_wire::read_u64_at(part, 1) else {
         return OperationRead::Refused(ProjectionPatchReadFault::Malformed);
     };
-    let ReadU32::Read(slot) = bytes_wire::read_u32_at(part, widths::TAGGED) else {
+    let Some(slot) = bytes_wire::read_u32_at(part, widths::TAGGED) else {
         return OperationRead::Refused(ProjectionPatchReadFault::Malformed);
     };
     let target = BindingTarget {
@@ -96,7 +95,7 @@ fn set_binding_value(part: &[u8], strict: bool, edition: ProjectionPatchEdition)
 fn set_node_availability(part: &[u8]) -> OperationRead
     ensures { (strict : Bool) (ed : Edition) → result ≡ operation_answer (length part.now) (operation_after strict ed 2 (drop 1 part.now)) }
 {
-    let ReadU64::Read(number) = bytes_wire::read_u64_at(part, 1) else {
+    let Some(number) = bytes_wire::read_u64_at(part, 1) else {
         return OperationRead::Refused(ProjectionPatchReadFault::Malformed);
     };
     let node = StaticNodeId::new(number);

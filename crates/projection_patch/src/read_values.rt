@@ -15,7 +15,6 @@ use crate::patch::{
 };
 use crate::text_rule;
 use crate::text_rule::TextJudgement;
-use bytes_wire::{ReadI64, ReadU32, ReadU64};
 
 // Why bytes are not read.
 #[derive(Clone, Copy)]
@@ -76,10 +75,10 @@ pub enum ValueRead {
 pub fn numbers_at(part: &[u8], at: usize) -> NumbersRead
     ensures { result ≡ numbers_answer (first_number 8 (drop at part.now)) (first_number 8 (drop (at + 8) part.now)) }
 {
-    let ReadU64::Read(first) = bytes_wire::read_u64_at(part, at) else {
+    let Some(first) = bytes_wire::read_u64_at(part, at) else {
         return NumbersRead::Short;
     };
-    let ReadU64::Read(second) = bytes_wire::read_u64_at(part, at + 8) else {
+    let Some(second) = bytes_wire::read_u64_at(part, at + 8) else {
         return NumbersRead::Short;
     };
     NumbersRead::Read(first, second)
@@ -89,7 +88,7 @@ pub fn numbers_at(part: &[u8], at: usize) -> NumbersRead
 pub fn count_at(part: &[u8], at: usize, capacity: usize) -> CountRead
     ensures { result ≡ count_answer (length part.now) (read_count capacity (drop at part.now)) }
 {
-    let ReadU32::Read(n) = bytes_wire::read_u32_at(part, at) else {
+    let Some(n) = bytes_wire::read_u32_at(part, at) else {
         return CountRead::Refused(ProjectionPatchReadFault::Malformed);
     };
     let count = n as usize;
@@ -105,8 +104,8 @@ fn some_at(part: &[u8], at: usize) -> OptionalRead
     ensures { result ≡ optional_answer (length part.now) (mapped some read_u64 (drop at part.now)) }
 {
     match bytes_wire::read_u64_at(part, at) {
-        ReadU64::Read(n) => OptionalRead::Read(OptionalNumber::Some(n), at + 8),
-        ReadU64::Short => OptionalRead::Refused(ProjectionPatchReadFault::Malformed),
+        Some(n) => OptionalRead::Read(OptionalNumber::Some(n), at + 8),
+        None => OptionalRead::Refused(ProjectionPatchReadFault::Malformed),
     }
 }
 
@@ -171,8 +170,8 @@ fn signed_at(part: &[u8], at: usize) -> ValueRead
     ensures { result ≡ value_answer (length part.now) (mapped model.signed read_i64 (drop at part.now)) }
 {
     match bytes_wire::read_i64_at(part, at) {
-        ReadI64::Read(z) => ValueRead::Read(ProjectionPatchValue::SignedScalar(z), at + 8),
-        ReadI64::Short => ValueRead::Refused(ProjectionPatchReadFault::Malformed),
+        Some(z) => ValueRead::Read(ProjectionPatchValue::SignedScalar(z), at + 8),
+        None => ValueRead::Refused(ProjectionPatchReadFault::Malformed),
     }
 }
 
@@ -180,8 +179,8 @@ fn unsigned_at(part: &[u8], at: usize) -> ValueRead
     ensures { result ≡ value_answer (length part.now) (mapped model.unsigned read_u64 (drop at part.now)) }
 {
     match bytes_wire::read_u64_at(part, at) {
-        ReadU64::Read(n) => ValueRead::Read(ProjectionPatchValue::UnsignedScalar(n), at + 8),
-        ReadU64::Short => ValueRead::Refused(ProjectionPatchReadFault::Malformed),
+        Some(n) => ValueRead::Read(ProjectionPatchValue::UnsignedScalar(n), at + 8),
+        None => ValueRead::Refused(ProjectionPatchReadFault::Malformed),
     }
 }
 
@@ -224,8 +223,8 @@ fn text_at(part: &[u8], at: usize, strict: bool) -> ValueRead
     ensures { result ≡ value_answer (length part.now) (mapped model.text (read_text_by strict) (drop at part.now)) }
 {
     match bytes_wire::read_u32_at(part, at) {
-        ReadU32::Read(len) => text_from(part, at + 4, len as usize, strict),
-        ReadU32::Short => ValueRead::Refused(ProjectionPatchReadFault::Malformed),
+        Some(len) => text_from(part, at + 4, len as usize, strict),
+        None => ValueRead::Refused(ProjectionPatchReadFault::Malformed),
     }
 }
 

@@ -1,7 +1,6 @@
 // The patch lists that are written: sixty-four heads, and operations that are alike but for up to two texts.
 ghost use Rattle.std.specs.Prelude.{◌<◌};
 
-use bytes_wire::ReadU64;
 use projection_patch::binding_graph::{BindingSlot, BindingTarget};
 use projection_patch::contract_primitives::{Epoch, Revision, StaticDocumentId, StaticNodeId};
 use projection_patch::patch::{
@@ -64,8 +63,8 @@ fn field(row: &[u8], k: usize) -> usize
     requires { k < 8 }
 {
     match bytes_wire::read_u64_at(row, 8 * k) {
-        ReadU64::Read(n) => n as usize,
-        ReadU64::Short => 0,
+        Some(n) => n as usize,
+        None => 0,
     }
 }
 

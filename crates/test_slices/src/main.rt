@@ -7,7 +7,6 @@ mod checks;
 mod lists;
 mod writes;
 
-use bytes_wire::ReadU32;
 use std::io;
 
 // The most bytes of an item.
@@ -32,13 +31,13 @@ fn next_item(rt: &(impl Input + Print)) -> io::Result<bool> {
     if bytes_input::read_full(&mut rt.reader(), &mut lengths)? < 12 {
         return Ok(false);
     }
-    let ReadU32::Read(list) = bytes_wire::read_u32_at(&lengths, 0) else {
+    let Some(list) = bytes_wire::read_u32_at(&lengths, 0) else {
         return Ok(false);
     };
-    let ReadU32::Read(places) = bytes_wire::read_u32_at(&lengths, 4) else {
+    let Some(places) = bytes_wire::read_u32_at(&lengths, 4) else {
         return Ok(false);
     };
-    let ReadU32::Read(size) = bytes_wire::read_u32_at(&lengths, 8) else {
+    let Some(size) = bytes_wire::read_u32_at(&lengths, 8) else {
         return Ok(false);
     };
     let size = size as usize;

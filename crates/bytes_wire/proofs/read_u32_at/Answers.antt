@@ -1,22 +1,18 @@
--- `bytes_wire::read_u32_at` meets its contract: a number of 4 bytes fits its type.
-use Prim.Native.Nat.{◌^◌, ◌<◌}
-use mathlib.Core.Path.{sym, ap, ◌∙◌}
-use Rattle.spec_lists.proofs.BytesLaws.{bytes_of}
-use Rattle.bytes_wire.specs.Read.{number_u64}
-use Rattle.bytes_wire.proofs.ReadLaws.{number_at, number_small}
+-- `bytes_wire::read_u32_at` meets its contract: the first four bytes from the index on.
+use Rattle.std.proofs.Common.{ap, ◌∙◌, sym, arith}
+use Rattle.std.proofs.Math.Option.{some}
+use Rattle.spec_lists.specs.Options.{optional_of}
+use Rattle.bytes_wire.proofs.ReadLaws.{none_beyond, four_at}
 use Rattle.bytes_wire.proofs.read_u32_at.Goals as goal
-use Rattle.bytes_wire.proofs.read_u32_at.Goals.{In-Read}
 
-small : (c : In-Read) → c.in-Read.x < 256 ^ 4
-small c =
-    let read = number_at c.args.part.now c.args.at 4 c.in-Read.x (sym c.read_number_at.ensures ∙ ap number_u64 c.in-Read.is) in
-    number_small c.args.part.now c.args.at 4 read (bytes_of c.args.part.now (λ j. (c.type_inv.part j).fits))
+pub returns-in_err-get : goal.returns-in_err-get
+returns-in_err-get c =
+    ap optional_of c.from_residual.ensures ∙ sym (none_beyond c.args.part.now c.args.at 4 (omega (arith, c.in_err-get.ensures.lookup)))
 
-pub overflow_cast-result : goal.overflow_cast-result
-overflow_cast-result c = record { fits = small c }
+pub returns-in_err-first_chunk : goal.returns-in_err-first_chunk
+returns-in_err-first_chunk c =
+    ap optional_of c.from_residual-in_err-first_chunk.ensures
+    ∙ sym (none_beyond c.args.part.now c.args.at 4 (omega (arith, c.in_ok-get.ensures.lookup, c.in_err-first_chunk.ensures.cases)))
 
-pub returns-in-Read : goal.returns-in-Read
-returns-in-Read c = sym (ap number_u64 c.in-Read.is) ∙ c.read_number_at.ensures
-
-pub returns-in-Short : goal.returns-in-Short
-returns-in-Short c = sym (ap number_u64 c.in-Short.is) ∙ c.read_number_at.ensures
+pub returns : goal.returns
+returns c = ap some c.from_le_bytes.ensures ∙ four_at c.args.part.now c.args.at c.in_ok-get.ensures.lookup.0.2 c.in_ok-first_chunk.ensures.cases

@@ -1,22 +1,21 @@
--- `bytes_wire::write_bytes_at` meets its contract: the bytes go in place where the test says that they fit, else nothing is written.
-use mathlib.Core.Path.{refl, sym, ◌∙◌}
-use lib.ListN.{length}
-use Rattle.bytes_wire.specs.Write.{has_room}
-use Rattle.bytes_wire.proofs.WriteLaws.{room_true, overwrite_refused}
+-- `bytes_wire::write_bytes_at` meets its contract: the bytes in place where there is room, else nothing.
+use Rattle.std.proofs.Common.{rules}
+use Rattle.bytes_wire.specs.Write.{has_room, overwrite}
+use Rattle.bytes_wire.proofs.WriteLaws.{overwrite_part}
 use Rattle.bytes_wire.proofs.write_bytes_at.Goals as goal
 
-pub store_bytes-requires : goal.store_bytes-requires
+pub returns-then-not-has_room-clause-value : goal.returns-then-not-has_room-clause-value
 unfolding has_room
-store_bytes-requires c =
-    room_true c.args.out.now c.args.at (length c.args.bytes.now) (sym c.has_room.ensures ∙ c.if-has_room.true)
+returns-then-not-has_room-clause-value c = search rules
 
-pub returns-then-has_room : goal.returns-then-has_room
-unfolding has_room
-returns-then-has_room c =
-    record { value = sym c.if-has_room.true ∙ c.has_room.ensures; out_after = c.store_bytes.ensures }
+pub returns-then-not-has_room-clause-out_after : goal.returns-then-not-has_room-clause-out_after
+unfolding has_room overwrite
+returns-then-not-has_room-clause-out_after c = search rules
 
-pub returns-else-has_room : goal.returns-else-has_room
+pub returns-clause-value : goal.returns-clause-value
 unfolding has_room
-returns-else-has_room c =
-    let no = sym c.if-has_room.false ∙ c.has_room.ensures in
-    record { value = no; out_after = sym (overwrite_refused c.args.out.now c.args.at c.args.bytes.now (length c.args.bytes.now) refl (sym no)) }
+returns-clause-value c = search rules
+
+pub returns-clause-out_after : goal.returns-clause-out_after
+returns-clause-out_after c =
+    overwrite_part c.args.out.now c.args.at c.args.bytes.now c.copy_from_slice.ensures.after c.if-not-has_room.ensures

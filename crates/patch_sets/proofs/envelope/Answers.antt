@@ -20,7 +20,7 @@ use Rattle.projection_patch.proofs.Places.{optional_is}
 use Rattle.patch_sets.proofs.Heads.{optional_malformed}
 use borrow.Author.Rules.{rules}
 use Rattle.patch_sets.proofs.envelope.Goals as goal
-use Rattle.patch_sets.proofs.envelope.Goals.{After-shared_slice_known-1, In-Read, In-Read-numbers_at, In-Read-numbers_at-2, In-Read-optional_at, In-Read-read_u64_at}
+use Rattle.patch_sets.proofs.envelope.Goals.{After-shared_slice_known-1, In-Read, In-Read-numbers_at, In-Read-numbers_at-2, In-Read-optional_at, In-Some}
 
 abbrev part : After-shared_slice_known-1 → List ℕ
 part c = c.args.part.now
@@ -32,9 +32,9 @@ patch : (c : In-Read) → NumbersAt ((c.args.part.now)) 0 c.in-Read.patch c.in-R
 patch c =
     numbers_at ((c.args.part.now)) 0 c.numbers_at.result c.numbers_at.ensures c.in-Read.patch c.in-Read.stream c.in-Read.is
 
-document : (c : In-Read-read_u64_at) → NumberAt ((c.args.part.now)) two_ids 8 c.in-Read-read_u64_at.document
+document : (c : In-Some) → NumberAt ((c.args.part.now)) two_ids 8 c.in-Some.document
 document c =
-    u64_at ((c.args.part.now)) two_ids c.in-Read-read_u64_at.document c.read_u64_at.result c.read_u64_at.ensures c.in-Read-read_u64_at.is
+    u64_at ((c.args.part.now)) two_ids c.in-Some.document c.read_u64_at.result c.read_u64_at.ensures c.in-Some.is
 
 surface : (c : In-Read-optional_at) → Got read_optional (anywhere optional_to) ((c.args.part.now)) three_ids c.in-Read-optional_at.surface (at c)
 surface c =
@@ -70,13 +70,13 @@ returns-in_default-optional_at c =
     let one = patch (goal.at.returns-in_default-optional_at c).In-Read in
     let l = part (goal.at.returns-in_default-optional_at c).After-shared_slice_known-1 in
     let g = no_optional l three_ids c.optional_at.result c.optional_at.ensures c.in_default-optional_at.field-0 c.in_default-optional_at.is in
-    rw (one.first, one.second, (document (goal.at.returns-in_default-optional_at c).In-Read-read_u64_at).is, g.is, optional_malformed (drop three_ids l) g.fault g.is)
+    rw (one.first, one.second, (document (goal.at.returns-in_default-optional_at c).In-Some).is, g.is, optional_malformed (drop three_ids l) g.fault g.is)
 
 pub returns-in_default-numbers_at : goal.returns-in_default-numbers_at
 unfolding read_envelope
 returns-in_default-numbers_at c =
     let one = patch (goal.at.returns-in_default-numbers_at c).In-Read in
-    rw (one.first, one.second, (document (goal.at.returns-in_default-numbers_at c).In-Read-read_u64_at).is, (surface (goal.at.returns-in_default-numbers_at c).In-Read-optional_at).is, numbers_missing (part (goal.at.returns-in_default-numbers_at c).After-shared_slice_known-1) (at (goal.at.returns-in_default-numbers_at c).In-Read-optional_at) c.numbers_at-2.result c.numbers_at-2.ensures (pair read_u64 read_u64) c.in_default-numbers_at.is)
+    rw (one.first, one.second, (document (goal.at.returns-in_default-numbers_at c).In-Some).is, (surface (goal.at.returns-in_default-numbers_at c).In-Read-optional_at).is, numbers_missing (part (goal.at.returns-in_default-numbers_at c).After-shared_slice_known-1) (at (goal.at.returns-in_default-numbers_at c).In-Read-optional_at) c.numbers_at-2.result c.numbers_at-2.ensures (pair read_u64 read_u64) c.in_default-numbers_at.is)
 
 pub overflow_add-next : goal.overflow_add-next
 overflow_add-next c = omega (arith, (previous c).room)
@@ -85,7 +85,7 @@ pub returns-in_default-numbers_at-2 : goal.returns-in_default-numbers_at-2
 unfolding read_envelope
 returns-in_default-numbers_at-2 c =
     let one = patch (goal.at.returns-in_default-numbers_at-2 c).In-Read in
-    rw (one.first, one.second, (document (goal.at.returns-in_default-numbers_at-2 c).In-Read-read_u64_at).is, (surface (goal.at.returns-in_default-numbers_at-2 c).In-Read-optional_at).is, (previous (goal.at.returns-in_default-numbers_at-2 c).In-Read-numbers_at).first, (previous (goal.at.returns-in_default-numbers_at-2 c).In-Read-numbers_at).second, last_numbers_missing (part (goal.at.returns-in_default-numbers_at-2 c).After-shared_slice_known-1) (at (goal.at.returns-in_default-numbers_at-2 c).In-Read-optional_at + two_ids) c.numbers_at-3.result c.numbers_at-3.ensures c.in_default-numbers_at-2.is)
+    rw (one.first, one.second, (document (goal.at.returns-in_default-numbers_at-2 c).In-Some).is, (surface (goal.at.returns-in_default-numbers_at-2 c).In-Read-optional_at).is, (previous (goal.at.returns-in_default-numbers_at-2 c).In-Read-numbers_at).first, (previous (goal.at.returns-in_default-numbers_at-2 c).In-Read-numbers_at).second, last_numbers_missing (part (goal.at.returns-in_default-numbers_at-2 c).After-shared_slice_known-1) (at (goal.at.returns-in_default-numbers_at-2 c).In-Read-optional_at + two_ids) c.numbers_at-3.result c.numbers_at-3.ensures c.in_default-numbers_at-2.is)
 
 pub overflow_add-end : goal.overflow_add-end
 overflow_add-end c = omega (arith, (epoch c).room)
@@ -96,6 +96,6 @@ returns c =
     let one = patch (goal.at.returns c).In-Read in
     let s = surface (goal.at.returns c).In-Read-optional_at in
     let made = c.envelope_of.ensures
-    ∙ ap (λ (o : Option ℕ). envelope_to (to_envelope (c.in-Read.patch, (c.in-Read.stream, (c.in-Read-read_u64_at.document, (o, (c.in-Read-numbers_at.previous, (c.in-Read-numbers_at.revision, (c.in-Read-numbers_at-2.epoch, c.in-Read-numbers_at-2.sequence)))))))))
+    ∙ ap (λ (o : Option ℕ). envelope_to (to_envelope (c.in-Read.patch, (c.in-Read.stream, (c.in-Some.document, (o, (c.in-Read-numbers_at.previous, (c.in-Read-numbers_at.revision, (c.in-Read-numbers_at-2.epoch, c.in-Read-numbers_at-2.sequence)))))))))
     (optional_is c.in-Read-optional_at.surface s.a s.same) in
-    rw (one.first, one.second, (document (goal.at.returns c).In-Read-read_u64_at).is, s.is, (previous (goal.at.returns c).In-Read-numbers_at).first, (previous (goal.at.returns c).In-Read-numbers_at).second, (epoch (goal.at.returns c).In-Read-numbers_at-2).first, (epoch (goal.at.returns c).In-Read-numbers_at-2).second, position (part (goal.at.returns c).After-shared_slice_known-1) (at (goal.at.returns c).In-Read-optional_at + two_ids + two_ids) (epoch (goal.at.returns c).In-Read-numbers_at-2).room, made)
+    rw (one.first, one.second, (document (goal.at.returns c).In-Some).is, s.is, (previous (goal.at.returns c).In-Read-numbers_at).first, (previous (goal.at.returns c).In-Read-numbers_at).second, (epoch (goal.at.returns c).In-Read-numbers_at-2).first, (epoch (goal.at.returns c).In-Read-numbers_at-2).second, position (part (goal.at.returns c).After-shared_slice_known-1) (at (goal.at.returns c).In-Read-optional_at + two_ids + two_ids) (epoch (goal.at.returns c).In-Read-numbers_at-2).room, made)

@@ -8,7 +8,8 @@ use lib.ListN.{length, drop}
 use Rattle.spec_lists.specs.Bytes.{Bytes}
 use Rattle.spec_lists.proofs.BytesLaws.{bytes_of}
 use Rattle.spec_patch.specs.Edition.{Edition, letters}
-use Rattle.bytes_wire.specs.Read.{first_number, number_u32}
+use Rattle.bytes_wire.specs.Read.{first_number}
+use Rattle.spec_lists.specs.Options.{optional_of}
 use Rattle.spec_patch.specs.Reader.{malformed}
 use Rattle.patch_sets.specs.HeadLaws.{heading_by_letters, heading_refused}
 use Rattle.projection_patch.specs.Meaning.{edition_of}
@@ -16,7 +17,7 @@ use Rattle.projection_patch.specs.ReadAnswers.{count_answer}
 use Rattle.patch_sets.proofs.Heads.{letter_count, no_number, other_number, other_letters, heading_there}
 use borrow.Author.Rules.{rules}
 use Rattle.patch_sets.proofs.read_heading.Goals as goal
-use Rattle.patch_sets.proofs.read_heading.Goals.{After-shared_slice_known-1, In-Read}
+use Rattle.patch_sets.proofs.read_heading.Goals.{After-shared_slice_known-1, In-Some}
 
 abbrev set : After-shared_slice_known-1 → List ℕ
 set c = c.args.set.now
@@ -27,28 +28,28 @@ edition c = edition_of c.args.edition
 all_bytes : (c : After-shared_slice_known-1) → Bytes (set c)
 all_bytes c = bytes_of (set c) (λ j. (c.type_inv.set j).fits)
 
-number : (c : In-Read) → some c.in-Read.letters ≡ first_number 4 ((c.args.set.now))
-number c = sym (ap number_u32 c.in-Read.is) ∙ c.read_u32_at.ensures
+number : (c : In-Some) → some c.in-Some.letters ≡ first_number 4 ((c.args.set.now))
+number c = sym (ap optional_of c.in-Some.is) ∙ c.read_u32_at.ensures
 
 pub returns-in_default : goal.returns-in_default
 returns-in_default c =
     let l = set (goal.at.returns-in_default c).After-shared_slice_known-1 in
-    let refusal = no_number (edition (goal.at.returns-in_default c).After-shared_slice_known-1) l (all_bytes (goal.at.returns-in_default c).After-shared_slice_known-1) (sym (ap number_u32 c.in_default.is) ∙ c.read_u32_at.ensures) in
+    let refusal = no_number (edition (goal.at.returns-in_default c).After-shared_slice_known-1) l (all_bytes (goal.at.returns-in_default c).After-shared_slice_known-1) (sym (ap optional_of c.in_default.is) ∙ c.read_u32_at.ensures) in
     rw (heading_refused (edition (goal.at.returns-in_default c).After-shared_slice_known-1) l malformed refusal)
 
 pub returns-then-letters-ne27 : goal.returns-then-letters-ne27
 unfolding letters
 returns-then-letters-ne27 c =
     let l = set (goal.at.returns-then-letters-ne27 c).After-shared_slice_known-1 in
-    let refusal = other_number (edition (goal.at.returns-then-letters-ne27 c).After-shared_slice_known-1) l (all_bytes (goal.at.returns-then-letters-ne27 c).After-shared_slice_known-1) c.in-Read.letters (number (goal.at.returns-then-letters-ne27 c).In-Read) (λ e. omega (arith, e)) in
+    let refusal = other_number (edition (goal.at.returns-then-letters-ne27 c).After-shared_slice_known-1) l (all_bytes (goal.at.returns-then-letters-ne27 c).After-shared_slice_known-1) c.in-Some.letters (number (goal.at.returns-then-letters-ne27 c).In-Some) (λ e. omega (arith, e)) in
     rw (heading_refused (edition (goal.at.returns-then-letters-ne27 c).After-shared_slice_known-1) l malformed refusal)
 
 pub returns-then-has_letters : goal.returns-then-has_letters
 unfolding letters
 returns-then-has_letters c =
     let l = set (goal.at.returns-then-has_letters c).After-shared_slice_known-1 in
-    let is : c.in-Read.letters ≡ letter_count (edition (goal.at.returns-then-has_letters c).After-shared_slice_known-1) = omega arith in
-    let there = heading_there (edition (goal.at.returns-then-has_letters c).After-shared_slice_known-1) l (all_bytes (goal.at.returns-then-has_letters c).After-shared_slice_known-1) (ap some (sym is) ∙ number (goal.at.returns-then-has_letters c).In-Read) (sym c.has_letters.ensures ∙ c.if-has_letters.true) in
+    let is : c.in-Some.letters ≡ letter_count (edition (goal.at.returns-then-has_letters c).After-shared_slice_known-1) = omega arith in
+    let there = heading_there (edition (goal.at.returns-then-has_letters c).After-shared_slice_known-1) l (all_bytes (goal.at.returns-then-has_letters c).After-shared_slice_known-1) (ap some (sym is) ∙ number (goal.at.returns-then-has_letters c).In-Some) (sym c.has_letters.ensures ∙ c.if-has_letters.true) in
     c.count_at.ensures ∙ ap (count_answer (length l)) (sym (heading_by_letters (edition (goal.at.returns-then-has_letters c).After-shared_slice_known-1) l (drop 31 l) there))
 
 pub returns-else-has_letters : goal.returns-else-has_letters

@@ -5,19 +5,19 @@ use Rattle.projection_patch.proofs.At.{NumberAt, u32_at, u32_short}
 use Rattle.patch_locate.specs.TextPositions.{text_behind, length_lacking}
 use borrow.Author.Rules.{rules}
 use Rattle.patch_locate.proofs.fields.text_at.Goals as goal
-use Rattle.patch_locate.proofs.fields.text_at.Goals.{In-Read}
+use Rattle.patch_locate.proofs.fields.text_at.Goals.{In-Some}
 
-got : (c : In-Read) → NumberAt c.args.part.now c.args.at 4 c.in-Read.len
+got : (c : In-Some) → NumberAt c.args.part.now c.args.at 4 c.in-Some.len
 got c =
-    u32_at c.args.part.now c.args.at c.in-Read.len c.read_u32_at.result c.read_u32_at.ensures c.in-Read.is
+    u32_at c.args.part.now c.args.at c.in-Some.len c.read_u32_at.result c.read_u32_at.ensures c.in-Some.is
 
 pub text_from-requires : goal.text_from-requires
 text_from-requires c = omega (arith, (got c).room)
 
-pub returns-in-Read : goal.returns-in-Read
-returns-in-Read c =
-    c.text_from.ensures ∙ text_behind c.args.part.now c.args.at _ (got (goal.at.returns-in-Read c).In-Read).is
+pub returns-in-Some : goal.returns-in-Some
+returns-in-Some c =
+    c.text_from.ensures ∙ text_behind c.args.part.now c.args.at _ (got (goal.at.returns-in-Some c).In-Some).is
 
-pub returns-in-Short : goal.returns-in-Short
-returns-in-Short c =
-    c.stop_at.ensures ∙ length_lacking c.args.part.now c.args.at (u32_short c.args.part.now c.args.at c.read_u32_at.result c.read_u32_at.ensures c.in-Short.is)
+pub returns-in-None : goal.returns-in-None
+returns-in-None c =
+    c.stop_at.ensures ∙ length_lacking c.args.part.now c.args.at (u32_short c.args.part.now c.args.at c.read_u32_at.result c.read_u32_at.ensures c.in-None.is)

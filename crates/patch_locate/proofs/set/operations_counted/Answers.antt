@@ -9,26 +9,26 @@ use Rattle.patch_locate.specs.SetPositions.{count_lacking, count_fits, count_ove
 use Rattle.patch_locate.specs.declared.rules.ReadingRule.TheVariants as rules
 use borrow.Author.Rules.{rules}
 use Rattle.patch_locate.proofs.set.operations_counted.Goals as goal
-use Rattle.patch_locate.proofs.set.operations_counted.Goals.{In-Read}
+use Rattle.patch_locate.proofs.set.operations_counted.Goals.{In-Some}
 
-got : (c : In-Read) → NumberAt c.args.set.now c.args.at 4 c.in-Read.count
+got : (c : In-Some) → NumberAt c.args.set.now c.args.at 4 c.in-Some.count
 got c =
-    u32_at c.args.set.now c.args.at c.in-Read.count c.read_u32_at.result c.read_u32_at.ensures c.in-Read.is
+    u32_at c.args.set.now c.args.at c.in-Some.count c.read_u32_at.result c.read_u32_at.ensures c.in-Some.is
 
 pub returns-in_default : goal.returns-in_default
 returns-in_default c =
     c.stop_at.ensures ∙ count_lacking c.args.set.now c.args.at rules.OperationCount patch_operations (operation_in (edition_of c.args.edition) c.args.patch) (u32_short c.args.set.now c.args.at c.read_u32_at.result c.read_u32_at.ensures c.in_default.is)
 
 pub overflow_add-at : goal.overflow_add-at
-overflow_add-at c = omega (arith, (got (goal.at.overflow_add-at c).In-Read).room)
+overflow_add-at c = omega (arith, (got (goal.at.overflow_add-at c).In-Some).room)
 
 pub operations_at-requires : goal.operations_at-requires
-operations_at-requires c = omega (arith, (got (goal.at.operations_at-requires c).In-Read).room)
+operations_at-requires c = omega (arith, (got (goal.at.operations_at-requires c).In-Some).room)
 
 pub returns-then-count-le-OPERATIONS : goal.returns-then-count-le-OPERATIONS
 returns-then-count-le-OPERATIONS c =
-    c.operations_at.ensures ∙ count_fits c.args.set.now c.args.at rules.OperationCount patch_operations (operation_in (edition_of c.args.edition) c.args.patch) _ (got (goal.at.returns-then-count-le-OPERATIONS c).In-Read).is (omega arith)
+    c.operations_at.ensures ∙ count_fits c.args.set.now c.args.at rules.OperationCount patch_operations (operation_in (edition_of c.args.edition) c.args.patch) _ (got (goal.at.returns-then-count-le-OPERATIONS c).In-Some).is (omega arith)
 
 pub returns : goal.returns
 returns c =
-    count_over c.args.set.now c.args.at rules.OperationCount patch_operations (operation_in (edition_of c.args.edition) c.args.patch) _ (got (goal.at.returns c).In-Read).is (omega (arith, (got (goal.at.returns c).In-Read).room)) (omega arith)
+    count_over c.args.set.now c.args.at rules.OperationCount patch_operations (operation_in (edition_of c.args.edition) c.args.patch) _ (got (goal.at.returns c).In-Some).is (omega (arith, (got (goal.at.returns c).In-Some).room)) (omega arith)

@@ -13,7 +13,7 @@ use Rattle.projection_patch.proofs.Answers.{value_got, no_value}
 use Rattle.projection_patch.proofs.Places.{node_is}
 use borrow.Author.Rules.{rules}
 use Rattle.projection_patch.proofs.read_operations.set_binding_value.Goals as goal
-use Rattle.projection_patch.proofs.read_operations.set_binding_value.Goals.{After-shared_slice_known-1, In-Read, In-Read-read_u32_at}
+use Rattle.projection_patch.proofs.read_operations.set_binding_value.Goals.{After-shared_slice_known-1, In-Some, In-Some-read_u32_at}
 
 abbrev part : After-shared_slice_known-1 → List ℕ
 part c = c.args.part.now
@@ -27,13 +27,13 @@ strict c = c.args.strict
 abbrev edition : After-shared_slice_known-1 → Edition
 edition c = edition_of c.args.edition
 
-node : (c : In-Read) → NumberAt ((c.args.part.now)) 1 8 c.in-Read.node
+node : (c : In-Some) → NumberAt ((c.args.part.now)) 1 8 c.in-Some.node
 node c =
-    u64_at ((c.args.part.now)) 1 c.in-Read.node c.read_u64_at.result c.read_u64_at.ensures c.in-Read.is
+    u64_at ((c.args.part.now)) 1 c.in-Some.node c.read_u64_at.result c.read_u64_at.ensures c.in-Some.is
 
-slot : (c : In-Read-read_u32_at) → NumberAt ((c.args.part.now)) tagged_bytes 4 c.in-Read-read_u32_at.slot
+slot : (c : In-Some-read_u32_at) → NumberAt ((c.args.part.now)) tagged_bytes 4 c.in-Some-read_u32_at.slot
 slot c =
-    u32_at ((c.args.part.now)) tagged_bytes c.in-Read-read_u32_at.slot c.read_u32_at.result c.read_u32_at.ensures c.in-Read-read_u32_at.is
+    u32_at ((c.args.part.now)) tagged_bytes c.in-Some-read_u32_at.slot c.read_u32_at.result c.read_u32_at.ensures c.in-Some-read_u32_at.is
 
 pub returns-in_default : goal.returns-in_default
 unfolding operation_after
@@ -44,16 +44,16 @@ pub returns-in_default-read_u32_at : goal.returns-in_default-read_u32_at
 unfolding operation_after
 returns-in_default-read_u32_at c =
     let l = part (goal.at.returns-in_default-read_u32_at c).After-shared_slice_known-1 in
-    rw ((node (goal.at.returns-in_default-read_u32_at c).In-Read).is, u32_short l tagged_bytes c.read_u32_at.result c.read_u32_at.ensures c.in_default-read_u32_at.is)
+    rw ((node (goal.at.returns-in_default-read_u32_at c).In-Some).is, u32_short l tagged_bytes c.read_u32_at.result c.read_u32_at.ensures c.in_default-read_u32_at.is)
 
-pub returns-in-Read-value_at : goal.returns-in-Read-value_at
+pub returns-in-Read : goal.returns-in-Read
 unfolding operation_after
-returns-in-Read-value_at c =
-    let v = value_got (part (goal.at.returns-in-Read-value_at c).After-shared_slice_known-1) past_slot (strict (goal.at.returns-in-Read-value_at c).After-shared_slice_known-1) (edition (goal.at.returns-in-Read-value_at c).After-shared_slice_known-1) c.value_at.result c.value_at.ensures (all_bytes (goal.at.returns-in-Read-value_at c).After-shared_slice_known-1) c.in-Read-value_at.value c.in-Read-value_at.end c.in-Read-value_at.is in
-    rw (c.same_value.ensures, (node (goal.at.returns-in-Read-value_at c).In-Read).is, (slot (goal.at.returns-in-Read-value_at c).In-Read-read_u32_at).is, v.is, v.there, v.same, node_is c.new.result c.in-Read.node c.new.ensures)
+returns-in-Read c =
+    let v = value_got (part (goal.at.returns-in-Read c).After-shared_slice_known-1) past_slot (strict (goal.at.returns-in-Read c).After-shared_slice_known-1) (edition (goal.at.returns-in-Read c).After-shared_slice_known-1) c.value_at.result c.value_at.ensures (all_bytes (goal.at.returns-in-Read c).After-shared_slice_known-1) c.in-Read.value c.in-Read.end c.in-Read.is in
+    rw (c.same_value.ensures, (node (goal.at.returns-in-Read c).In-Some).is, (slot (goal.at.returns-in-Read c).In-Some-read_u32_at).is, v.is, v.there, v.same, node_is c.new.result c.in-Some.node c.new.ensures)
 
 pub returns-in-Refused : goal.returns-in-Refused
 unfolding operation_after
 returns-in-Refused c =
     let v = no_value (part (goal.at.returns-in-Refused c).After-shared_slice_known-1) past_slot (strict (goal.at.returns-in-Refused c).After-shared_slice_known-1) (edition (goal.at.returns-in-Refused c).After-shared_slice_known-1) c.value_at.result c.value_at.ensures c.in-Refused.fault c.in-Refused.is in
-    rw ((node (goal.at.returns-in-Refused c).In-Read).is, (slot (goal.at.returns-in-Refused c).In-Read-read_u32_at).is, v.is, v.same)
+    rw ((node (goal.at.returns-in-Refused c).In-Some).is, (slot (goal.at.returns-in-Refused c).In-Some-read_u32_at).is, v.is, v.same)

@@ -6,20 +6,20 @@ use borrow.Author.Tests.{le-leb, lt-leb}
 use Rattle.projection_patch.proofs.At.{position, NumberAt, u32_at, u32_short}
 use borrow.Author.Rules.{rules}
 use Rattle.projection_patch.proofs.read_values.count_at.Goals as goal
-use Rattle.projection_patch.proofs.read_values.count_at.Goals.{In-Read}
+use Rattle.projection_patch.proofs.read_values.count_at.Goals.{In-Some}
 
-abbrev part : In-Read → List ℕ
+abbrev part : In-Some → List ℕ
 part c = c.args.part.now
 
-abbrev at : In-Read → ℕ
+abbrev at : In-Some → ℕ
 at c = c.args.at
 
-abbrev count : In-Read → ℕ
-count c = c.in-Read.n
+abbrev count : In-Some → ℕ
+count c = c.in-Some.n
 
-got : (c : In-Read) → NumberAt (part c) (at c) 4 (count c)
+got : (c : In-Some) → NumberAt (part c) (at c) 4 (count c)
 got c =
-    u32_at (part c) (at c) (count c) c.read_u32_at.result c.read_u32_at.ensures c.in-Read.is
+    u32_at (part c) (at c) (count c) c.read_u32_at.result c.read_u32_at.ensures c.in-Some.is
 
 pub returns-in_default : goal.returns-in_default
 returns-in_default c =
@@ -30,8 +30,8 @@ overflow_add-end c = omega (arith, (got c).room)
 
 pub returns-then-count-capacity : goal.returns-then-count-capacity
 returns-then-count-capacity c =
-    rw ((got (goal.at.returns-then-count-capacity c).In-Read).is, le-leb (count (goal.at.returns-then-count-capacity c).In-Read) c.args.capacity c.if-count-capacity.true, position (part (goal.at.returns-then-count-capacity c).In-Read) (at (goal.at.returns-then-count-capacity c).In-Read + 4) (got (goal.at.returns-then-count-capacity c).In-Read).room)
+    rw ((got (goal.at.returns-then-count-capacity c).In-Some).is, le-leb (count (goal.at.returns-then-count-capacity c).In-Some) c.args.capacity c.if-count-capacity.true, position (part (goal.at.returns-then-count-capacity c).In-Some) (at (goal.at.returns-then-count-capacity c).In-Some + 4) (got (goal.at.returns-then-count-capacity c).In-Some).room)
 
 pub returns-else-count-capacity : goal.returns-else-count-capacity
 returns-else-count-capacity c =
-    rw ((got (goal.at.returns-else-count-capacity c).In-Read).is, lt-leb (count (goal.at.returns-else-count-capacity c).In-Read) c.args.capacity (omega arith))
+    rw ((got (goal.at.returns-else-count-capacity c).In-Some).is, lt-leb (count (goal.at.returns-else-count-capacity c).In-Some) c.args.capacity (omega arith))
