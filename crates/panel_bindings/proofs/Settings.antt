@@ -4,7 +4,7 @@ use mathlib.Core.Path.{◌≡◌, ap, ◌∙◌, subst}
 use mathlib.Core.List.{List, [], ◌∷◌, map}
 use lib.ListN.{length}
 use lib.Dec.{leb}
-use Rattle.std.specs.Prelude.{if◌then◌else◌}
+use Rattle.std.specs.Prelude.{if◌then◌else◌, Result}
 use Rattle.spec_lists.specs.Lists.{All}
 use Rattle.spec_lists.proofs.ListLaws.{all_map}
 use Rattle.spec_lists.specs.Order.{upsert}
@@ -20,12 +20,12 @@ use Rattle.panel_rows.specs.RowsLaws.{availability_key_lem}
 use Rattle.local_projection_state.specs.Stores.{Stored}
 use Rattle.panel_bindings.specs.Change.{Became, RowsBecame}
 use Rattle.panel_bindings.specs.ChangeLaws.{upserted_rows, set_became}
-use Rattle.panel_bindings.specs.declared.TableChange.{TableChange}
 use Rattle.panel_bindings.proofs.Upserts.{Made}
 use Rattle.std.specs.Prelude.{Result}
+use Rattle.local_projection_state.specs.declared.LocalProjectionApplicationError.{LocalProjectionApplicationError}
 
 -- what the calls told: where the row goes, what it is, and what became of the table
-pub record ToldSetting {A : Type 0} (row : A → List ℕ) (key : A → List ℕ) (rowKey : List ℕ → List ℕ) (w n : ℕ) (a : A) (table exit bytes : List ℕ) (place : Result ℕ ℕ) (r : TableChange) : Type 0 where
+pub record ToldSetting {A : Type 0} (row : A → List ℕ) (key : A → List ℕ) (rowKey : List ℕ → List ℕ) (w n : ℕ) (a : A) (table exit bytes : List ℕ) (place : Result ℕ ℕ) (r : Result ℕ LocalProjectionApplicationError) : Type 0 where
   pub same : length exit ≡ length table
   pub is : bytes ≡ row a
   pub wide : Wide w bytes
@@ -34,7 +34,7 @@ pub record ToldSetting {A : Type 0} (row : A → List ℕ) (key : A → List ℕ
   pub made : Made w n table exit bytes r place
 
 module _ {A : Type 0} (row : A → List ℕ) (key : A → List ℕ) (rowKey : List ℕ → List ℕ) (w capacity : ℕ) (Fits : A → Type 0) (keys : (x : A) → Fits x → rowKey (row x) ≡ key x) where
-  set_made : (Next : ℕ → Projection → Type 0) (put : List A → Projection) (a : A) (l : List A) (n : ℕ) (table exit bytes : List ℕ) (place : Result ℕ ℕ) (r : TableChange)
+  set_made : (Next : ℕ → Projection → Type 0) (put : List A → Projection) (a : A) (l : List A) (n : ℕ) (table exit bytes : List ℕ) (place : Result ℕ ℕ) (r : Result ℕ LocalProjectionApplicationError)
       → ((m : ℕ) → Stored row w capacity m exit (upsert key a l) → Next m (put (upsert key a l))) → All Fits l → Stored row w capacity n table l → ToldSetting row key rowKey w n a table exit bytes place r
       → Became Next r (if leb (length (upsert key a l)) capacity then done (put (upsert key a l)) else stopped projection_full)
   set_made Next put a l n table exit bytes place r next fit s t =
@@ -44,7 +44,7 @@ module _ {A : Type 0} (row : A → List ℕ) (key : A → List ℕ) (rowKey : Li
       ∙ upserted_rows row key rowKey w capacity a l place (all_map Fits (λ x. rowKey (row x) ≡ key x) keys l fit) (t.placed (map row l) s.rows))
       (t.made capacity (map row l) s.size s.rows t.wide t.within))
 
-module _ (n : ℕ) (table exit bytes : List ℕ) (place : Result ℕ ℕ) (r : TableChange) (p : Projection) (v : Valid p) where
+module _ (n : ℕ) (table exit bytes : List ℕ) (place : Result ℕ ℕ) (r : Result ℕ LocalProjectionApplicationError) (p : Projection) (v : Valid p) where
   -- rows of any width that begin with the node and the slot
   pub binding_set : (row : Binding → List ℕ) (w : ℕ) → ((b : Binding) → FitsBinding b → leading_numbers binding_fields (row b) ≡ binding_key b)
       → (b : Binding) → Stored row w projection_bindings n table p.bindings → ToldSetting row binding_key (leading_numbers binding_fields) w n b table exit bytes place r

@@ -1,5 +1,5 @@
 -- Laws of what an operation answers, and of rows that ascend by a key.
-use Rattle.std.specs.Prelude.{ℕ, ◌*◌, ◌≤◌, ◌<◌, ◌≡◌, refl, List, map, leb, length, if◌then◌else◌}
+use Rattle.std.specs.Prelude.{ℕ, ◌*◌, ◌≤◌, ◌<◌, ◌≡◌, refl, List, map, leb, length, if◌then◌else◌, Result, Ok, Err}
 use Rattle.std.proofs.Common.{sym, ap, ◌∙◌, subst, arith, le-leb}
 use Rattle.std.proofs.lemmas.Bool.{lt-leb}
 use Rattle.std.proofs.lemmas.List.{length-map}
@@ -13,16 +13,14 @@ use Rattle.local_projection_state.specs.Stores.{Stored}
 use Rattle.local_projection_state.specs.Faults.{application_fault_of}
 use Rattle.panel_bindings.specs.Change.{Became, RowsBecame}
 use Rattle.local_projection_state.specs.declared.LocalProjectionApplicationError.{LocalProjectionApplicationError}
-use Rattle.panel_bindings.specs.declared.TableChange.{TableChange}
-use Rattle.panel_bindings.specs.declared.TableChange.TheVariants.{Applied, Refused}
 use Rattle.std.specs.Prelude.{Result}
 
 module _ (Next : ℕ → Projection → Type 0) where
-  pub became_done : {x : Outcome} (n : ℕ) {q : Projection} → x ≡ done q → Next n q → Became Next (Applied n) x
-  became_done n e h = subst (λ y. Became Next (Applied n) y) (sym e) h
+  pub became_done : {x : Outcome} (n : ℕ) {q : Projection} → x ≡ done q → Next n q → Became Next (Ok n) x
+  became_done n e h = subst (λ y. Became Next (Ok n) y) (sym e) h
 
-  pub became_stopped : {x : Outcome} (e : LocalProjectionApplicationError) → x ≡ stopped (application_fault_of e) → Became Next (Refused e) x
-  became_stopped e h = subst (λ y. Became Next (Refused e) y) (sym h) refl
+  pub became_stopped : {x : Outcome} (e : LocalProjectionApplicationError) → x ≡ stopped (application_fault_of e) → Became Next (Err e) x
+  became_stopped e h = subst (λ y. Became Next (Err e) y) (sym h) refl
 
 -- ---- a record set by its key
 
@@ -36,10 +34,10 @@ module _ {A : Type 0} (row : A → List ℕ) (key : A → List ℕ) (rowKey : Li
   module _ (Next : ℕ → Projection → Type 0) (put : List A → Projection) (exit : List ℕ) (same : length exit ≡ capacity * width) (list : List A)
       (next : (n : ℕ) → Stored row width capacity n exit list → Next n (put list)) where
     -- the rows of the new list, where there are places for them
-    pub set_became : (r : TableChange) → RowsBecame width capacity (map row list) exit r → Became Next r (if leb (length list) capacity then done (put list) else stopped projection_full)
-    set_became (Applied n) h =
+    pub set_became : (r : Result ℕ LocalProjectionApplicationError) → RowsBecame width capacity (map row list) exit r → Became Next r (if leb (length list) capacity then done (put list) else stopped projection_full)
+    set_became (Ok n) h =
         let few : length list ≤ capacity = omega (arith, h.0, length-map list row) in
         rw (le-leb (length list) capacity few) (next n (record { size = same; rows = h.1 }))
-    set_became (Refused e) h =
+    set_became (Err e) h =
         let over : capacity < length list = omega (arith, h.0, length-map list row) in
         rw (lt-leb (length list) capacity over) (ap application_fault_of h.1)

@@ -4,7 +4,7 @@
 
 pub mod find;
 
-ghost use Rattle.std.specs.Prelude.{List, [], ℕ, ◌≤◌, ◌<◌, get_or};
+ghost use Rattle.std.specs.Prelude.{◌≡◌, OnErr, List, [], ℕ, ◌≤◌, ◌<◌, get_or};
 ghost use Rattle.spec_projection.specs.Projection.{Projection};
 ghost use Rattle.spec_projection.specs.FirstMatch.{find_first};
 ghost use Rattle.spec_projection.specs.Entries.{is_entry};
@@ -15,11 +15,10 @@ ghost use Rattle.bytes_records.specs.Table.{HoldsRows};
 ghost use Rattle.spec_patch.specs.Patch.{unsigned};
 ghost use Rattle.projection_patch.specs.Meaning.{before_of};
 ghost use Rattle.panel_plan.specs.PlanRows.{planned_entry_width, PlannedEntries};
-ghost use Rattle.panel_bindings.specs.Change.{Became, KeptTable};
+ghost use Rattle.panel_bindings.specs.Change.{Became};
 ghost use Rattle.panel_entries.specs.Places.{without_at};
 
 use local_projection_state::LocalProjectionApplicationError;
-use panel_bindings::TableChange;
 use projection_patch::patch::OptionalKey;
 
 // Replaces the mark and the source of a key, in its place.
@@ -30,35 +29,38 @@ pub fn update_entry(
     key: u64,
     mark: u64,
     source: u64,
-) -> TableChange
+) -> Result<usize, LocalProjectionApplicationError>
     ensures made { (p : Projection) → PlannedEntries count table.old p.entries → Valid p
         → Became (λ n q. PlannedEntries n table.new q.entries) result
         (apply_update p (record { collection = collection; key = key; mark = mark; value = unsigned source })) }
-    ensures kept { KeptTable result table.old table.new }
+    ensures kept { OnErr result (table.new ≡ table.old) }
 {
-    match find::find_entry(table, panel_plan::ENTRY_WIDTH, count, collection, key) {
-        Some(at) => {
-            let row = panel_plan::entry_row(collection, key, mark, source);
-            bytes_records::replace_record(table, panel_plan::ENTRY_WIDTH, count, at, &row);
-            TableChange::Applied(count)
-        }
-        None => TableChange::Refused(LocalProjectionApplicationError::KeyRule),
-    }
+    let width = panel_plan::ENTRY_WIDTH;
+    let Some(at) = find::find_entry(table, width, count, collection, key) else {
+        return Err(LocalProjectionApplicationError::KeyRule);
+    };
+    let row = panel_plan::entry_row(collection, key, mark, source);
+    bytes_records::replace_record(table, width, count, at, &row);
+    Ok(count)
 }
 
 // Removes a key, and frees its place.
-pub fn remove_entry(table: &mut [u8], count: usize, collection: u64, key: u64) -> TableChange
+pub fn remove_entry(
+    table: &mut [u8],
+    count: usize,
+    collection: u64,
+    key: u64,
+) -> Result<usize, LocalProjectionApplicationError>
     ensures made { (p : Projection) → PlannedEntries count table.old p.entries → Valid p
         → Became (λ n q. PlannedEntries n table.new q.entries) result (apply_remove p collection key) }
-    ensures kept { KeptTable result table.old table.new }
+    ensures kept { OnErr result (table.new ≡ table.old) }
 {
-    match find::find_entry(table, panel_plan::ENTRY_WIDTH, count, collection, key) {
-        Some(at) => {
-            bytes_records::remove_record(table, panel_plan::ENTRY_WIDTH, count, at);
-            TableChange::Applied(count - 1)
-        }
-        None => TableChange::Refused(LocalProjectionApplicationError::KeyRule),
-    }
+    let width = panel_plan::ENTRY_WIDTH;
+    let Some(at) = find::find_entry(table, width, count, collection, key) else {
+        return Err(LocalProjectionApplicationError::KeyRule);
+    };
+    bytes_records::remove_record(table, width, count, at);
+    Ok(count - 1)
 }
 
 // Inserts a key that is absent before its neighbour, or last of its collection.
@@ -70,31 +72,25 @@ pub fn insert_entry(
     before: OptionalKey,
     mark: u64,
     source: u64,
-) -> TableChange
+) -> Result<usize, LocalProjectionApplicationError>
     ensures made { (p : Projection) → PlannedEntries count table.old p.entries → Valid p
         → Became (λ n q. PlannedEntries n table.new q.entries) result
         (apply_insert p (before_of before) (record { collection = collection; key = key; mark = mark; value = unsigned source })) }
-    ensures kept { KeptTable result table.old table.new }
+    ensures kept { OnErr result (table.new ≡ table.old) }
 {
-    if let Some(_) = find::find_entry(table, panel_plan::ENTRY_WIDTH, count, collection, key) {
-        return TableChange::Refused(LocalProjectionApplicationError::KeyRule);
+    let width = panel_plan::ENTRY_WIDTH;
+    if find::find_entry(table, width, count, collection, key).is_some() {
+        return Err(LocalProjectionApplicationError::KeyRule);
     }
-    match find::seek_place(
-        table,
-        count,
-        collection,
-        find::has_neighbour(before),
-        find::neighbour_key(before),
-    ) {
-        Some(at) => {
-            let row = panel_plan::entry_row(collection, key, mark, source);
-            if bytes_records::insert_record(table, panel_plan::ENTRY_WIDTH, count, at, &row) {
-                return TableChange::Applied(count + 1);
-            }
-            TableChange::Refused(LocalProjectionApplicationError::ProjectionFull)
-        }
-        None => TableChange::Refused(LocalProjectionApplicationError::KeyRule),
+    let (placed, neighbour) = (find::has_neighbour(before), find::neighbour_key(before));
+    let Some(at) = find::seek_place(table, count, collection, placed, neighbour) else {
+        return Err(LocalProjectionApplicationError::KeyRule);
+    };
+    let row = panel_plan::entry_row(collection, key, mark, source);
+    if bytes_records::insert_record(table, width, count, at, &row) {
+        return Ok(count + 1);
     }
+    Err(LocalProjectionApplicationError::ProjectionFull)
 }
 
 // Takes the row at position from out, and inserts it before the one at position to.
@@ -123,20 +119,18 @@ pub fn move_entry(
     collection: u64,
     key: u64,
     before: OptionalKey,
-) -> TableChange
+) -> Result<usize, LocalProjectionApplicationError>
     ensures made { (p : Projection) → PlannedEntries count table.old p.entries → Valid p
         → Became (λ n q. PlannedEntries n table.new q.entries) result
         (apply_move p (before_of before) (find_first (is_entry collection key) p.entries)) }
-    ensures kept { KeptTable result table.old table.new }
+    ensures kept { OnErr result (table.new ≡ table.old) }
 {
-    match find::find_entry(table, panel_plan::ENTRY_WIDTH, count, collection, key) {
-        Some(from) => match find::place_before_other(table, count, collection, key, before) {
-            Some(to) => {
-                move_row(table, count, from, to);
-                TableChange::Applied(count)
-            }
-            None => TableChange::Refused(LocalProjectionApplicationError::KeyRule),
-        },
-        None => TableChange::Refused(LocalProjectionApplicationError::KeyRule),
-    }
+    let Some(from) = find::find_entry(table, panel_plan::ENTRY_WIDTH, count, collection, key) else {
+        return Err(LocalProjectionApplicationError::KeyRule);
+    };
+    let Some(to) = find::place_before_other(table, count, collection, key, before) else {
+        return Err(LocalProjectionApplicationError::KeyRule);
+    };
+    move_row(table, count, from, to);
+    Ok(count)
 }

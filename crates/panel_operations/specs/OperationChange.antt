@@ -1,9 +1,9 @@
 -- What an operation on the three tables of a plan answers, and what becomes of them.
-use Rattle.std.specs.Prelude.{ℕ, ◌≡◌, List, []}
+use Rattle.std.specs.Prelude.{ℕ, ◌≡◌, List, [], Result, Ok, Err, OnErr}
 use Rattle.spec_patch.specs.Sizes.{projection_availabilities}
 use Rattle.spec_patch.specs.Patch.{unsigned, Operation}
 use Rattle.spec_projection.specs.Projection.{NodeAvailability, Projection}
-use Rattle.spec_projection.specs.Apply.{Outcome, done, stopped}
+use Rattle.spec_projection.specs.Apply.{Outcome}
 use Rattle.spec_projection.specs.Valid.{Valid}
 use Rattle.projection_patch.specs.Meaning.{operation_of}
 use Rattle.projection_patch.specs.declared.patch.ProjectionPatchOperation.{ProjectionPatchOperation}
@@ -12,34 +12,18 @@ use Rattle.local_projection_state.specs.Stores.{Stored}
 use Rattle.local_projection_state.specs.declared.ProjectionCounts.{ProjectionCounts}
 use Rattle.panel_plan.specs.Plan.{with_source}
 use Rattle.panel_plan.specs.PlanRows.{PlannedBindings, PlannedEntries}
-use Rattle.local_projection_state.specs.Faults.{application_fault_of}
-use Rattle.panel_bindings.specs.Change.{Became, KeptTable}
-use Rattle.panel_bindings.specs.declared.TableChange.{TableChange}
-use Rattle.panel_bindings.specs.declared.TableChange.TheVariants as table
-use Rattle.panel_operations.specs.declared.OperationChange.{OperationChange}
-use Rattle.panel_operations.specs.declared.OperationChange.TheVariants.{Applied, Refused}
+use Rattle.panel_bindings.specs.Change.{Became}
+use Rattle.local_projection_state.specs.declared.LocalProjectionApplicationError.{LocalProjectionApplicationError}
 
 -- the operation with a source for its value, wherever its text stands
 abbrev pub planned_operation : ℕ → ProjectionPatchOperation → Operation
 planned_operation source o = with_source (unsigned source) (operation_of [] o)
 
--- the answer is the outcome's: with these counts the tables are what the next plan says, or the refusal is the fault's
-abbrev pub OperationBecame : (ProjectionCounts → Projection → Type 0) → OperationChange → Outcome → Type 0
-OperationBecame Next (Applied m) (done q) = Next m q
-OperationBecame Next (Applied m) (stopped f) = ⊥
-OperationBecame Next (Refused e) (done q) = ⊥
-OperationBecame Next (Refused e) (stopped f) = application_fault_of e ≡ f
-
--- what holds of the tables after a refusal
-abbrev pub AfterRefusal : Type 0 → OperationChange → Type 0
-AfterRefusal Same (Applied m) = Unit {0}
-AfterRefusal Same (Refused e) = Same
-
 -- ---- one table's answer, with the counts of all three
 
-abbrev pub counted_change : (ℕ → ProjectionCounts) → TableChange → OperationChange
-counted_change put (table.Applied k) = Applied (put k)
-counted_change put (table.Refused e) = Refused e
+abbrev pub counted_change : (ℕ → ProjectionCounts) → Result ℕ LocalProjectionApplicationError → Result ProjectionCounts LocalProjectionApplicationError
+counted_change put (Ok k) = Ok (put k)
+counted_change put (Err e) = Err e
 
 abbrev pub bindings_now : ProjectionCounts → ℕ → ProjectionCounts
 bindings_now n k = record { bindings = k; availabilities = n.availabilities; entries = n.entries }
@@ -52,17 +36,17 @@ entries_now n k = record { bindings = n.bindings; availabilities = n.availabilit
 
 -- the answer of a change of one list of the projection, in its table
 pub record TableChanged {A : Type 0} (Table : ℕ → List ℕ → List A → Type 0) (list : Projection → List A) (n : ℕ) (put : ℕ → ProjectionCounts)
-    (entry exit : List ℕ) (apply : Projection → Outcome) (r : OperationChange) : Type 0 where
-  pub change : TableChange
+    (entry exit : List ℕ) (apply : Projection → Outcome) (r : Result ProjectionCounts LocalProjectionApplicationError) : Type 0 where
+  pub change : Result ℕ LocalProjectionApplicationError
   pub told : r ≡ counted_change put change
   pub made : (p : Projection) → Table n entry (list p) → Valid p → Became (λ k q. Table k exit (list q)) change (apply p)
-  pub kept : KeptTable change entry exit
+  pub kept : OnErr change (exit ≡ entry)
 
-abbrev pub BindingsChanged : ProjectionCounts → List ℕ → List ℕ → (Projection → Outcome) → OperationChange → Type 0
+abbrev pub BindingsChanged : ProjectionCounts → List ℕ → List ℕ → (Projection → Outcome) → Result ProjectionCounts LocalProjectionApplicationError → Type 0
 BindingsChanged n = TableChanged PlannedBindings (λ (p : Projection). p.bindings) n.bindings (bindings_now n)
 
-abbrev pub AvailabilitiesChanged : ProjectionCounts → List ℕ → List ℕ → (Projection → Outcome) → OperationChange → Type 0
+abbrev pub AvailabilitiesChanged : ProjectionCounts → List ℕ → List ℕ → (Projection → Outcome) → Result ProjectionCounts LocalProjectionApplicationError → Type 0
 AvailabilitiesChanged n = TableChanged (Stored availability_row availability_width projection_availabilities) (λ (p : Projection). p.availabilities) n.availabilities (availabilities_now n)
 
-abbrev pub EntriesChanged : ProjectionCounts → List ℕ → List ℕ → (Projection → Outcome) → OperationChange → Type 0
+abbrev pub EntriesChanged : ProjectionCounts → List ℕ → List ℕ → (Projection → Outcome) → Result ProjectionCounts LocalProjectionApplicationError → Type 0
 EntriesChanged n = TableChanged PlannedEntries (λ (p : Projection). p.entries) n.entries (entries_now n)

@@ -1,5 +1,5 @@
 -- What becomes of one table is what becomes of the plan: the two others stay.
-use Rattle.std.specs.Prelude.{ℕ, ◌≡◌, refl, List}
+use Rattle.std.specs.Prelude.{ℕ, ◌≡◌, refl, List, Result, Ok, Err, OnErr}
 use Rattle.std.proofs.Common.{sym, subst}
 use Rattle.spec_patch.specs.Sizes.{projection_availabilities}
 use Rattle.spec_patch.specs.Edition.{Edition}
@@ -19,11 +19,9 @@ use Rattle.local_projection_state.specs.Stores.{Stored}
 use Rattle.local_projection_state.specs.declared.ProjectionCounts.{ProjectionCounts}
 use Rattle.panel_plan.specs.Plan.{with_source}
 use Rattle.panel_plan.specs.PlanRows.{PlannedBindings, PlannedEntries, StoredPlan}
-use Rattle.panel_bindings.specs.Change.{Became, KeptTable}
-use Rattle.panel_bindings.specs.declared.TableChange.{TableChange}
-use Rattle.panel_bindings.specs.declared.TableChange.TheVariants as table
-use Rattle.panel_operations.specs.OperationChange.{planned_operation, OperationBecame, AfterRefusal, counted_change, TableChanged, BindingsChanged, AvailabilitiesChanged, EntriesChanged}
-use Rattle.panel_operations.specs.declared.OperationChange.{OperationChange}
+use Rattle.panel_bindings.specs.Change.{Became}
+use Rattle.panel_operations.specs.OperationChange.{planned_operation, counted_change, TableChanged, BindingsChanged, AvailabilitiesChanged, EntriesChanged}
+use Rattle.local_projection_state.specs.declared.LocalProjectionApplicationError.{LocalProjectionApplicationError}
 
 -- the value is not looked at, nor its text
 pub planned_is : (texts : List ℕ) (source : ℕ) (o : ProjectionPatchOperation) → with_source (unsigned source) (operation_of texts o) ≡ planned_operation source o
@@ -38,36 +36,36 @@ planned_is texts source (CollectionMove c k b) = refl
 -- ---- an answer with its counts
 
 module _ (put : ℕ → ProjectionCounts) where
-  counted_became : (Now : ℕ → Projection → Type 0) (Next : ProjectionCounts → Projection → Type 0) (t : TableChange) (x : Outcome)
-      → ((k : ℕ) (q : Projection) → x ≡ done q → Now k q → Next (put k) q) → Became Now t x → OperationBecame Next (counted_change put t) x
-  counted_became Now Next (table.Applied k) (done q) next h = next k q refl h
-  counted_became Now Next (table.Applied k) (stopped f) next h = absurd h
-  counted_became Now Next (table.Refused e) (done q) next h = absurd h
-  counted_became Now Next (table.Refused e) (stopped f) next h = h
+  counted_became : (Now : ℕ → Projection → Type 0) (Next : ProjectionCounts → Projection → Type 0) (t : Result ℕ LocalProjectionApplicationError) (x : Outcome)
+      → ((k : ℕ) (q : Projection) → x ≡ done q → Now k q → Next (put k) q) → Became Now t x → Became Next (counted_change put t) x
+  counted_became Now Next (Ok k) (done q) next h = next k q refl h
+  counted_became Now Next (Ok k) (stopped f) next h = absurd h
+  counted_became Now Next (Err e) (done q) next h = absurd h
+  counted_became Now Next (Err e) (stopped f) next h = h
 
-  counted_kept : {entry exit : List ℕ} (Same : Type 0) → (exit ≡ entry → Same) → (t : TableChange) → KeptTable t entry exit → AfterRefusal Same (counted_change put t)
-  counted_kept Same same (table.Applied k) h = tt
-  counted_kept Same same (table.Refused e) h = same h
+  counted_kept : {entry exit : List ℕ} (Same : Type 0) → (exit ≡ entry → Same) → (t : Result ℕ LocalProjectionApplicationError) → OnErr t (exit ≡ entry) → OnErr (counted_change put t) Same
+  counted_kept Same same (Ok k) h = tt
+  counted_kept Same same (Err e) h = same h
 
-module _ {A : Type 0} {Table : ℕ → List ℕ → List A → Type 0} {list : Projection → List A} {n : ℕ} {put : ℕ → ProjectionCounts} {entry exit : List ℕ} {apply : Projection → Outcome} {r : OperationChange}
+module _ {A : Type 0} {Table : ℕ → List ℕ → List A → Type 0} {list : Projection → List A} {n : ℕ} {put : ℕ → ProjectionCounts} {entry exit : List ℕ} {apply : Projection → Outcome} {r : Result ProjectionCounts LocalProjectionApplicationError}
     (c : TableChanged Table list n put entry exit apply r) where
-  pub changed_kept : (Same : Type 0) → (exit ≡ entry → Same) → AfterRefusal Same r
-  changed_kept Same same = subst (AfterRefusal Same) (sym c.told) (counted_kept put Same same c.change c.kept)
+  pub changed_kept : (Same : Type 0) → (exit ≡ entry → Same) → OnErr r Same
+  changed_kept Same same = subst (λ x. OnErr x Same) (sym c.told) (counted_kept put Same same c.change c.kept)
 
   changed_became : (p : Projection) → Table n entry (list p) → Valid p → (Next : ProjectionCounts → Projection → Type 0)
-      → ((k : ℕ) (q : Projection) → apply p ≡ done q → Table k exit (list q) → Next (put k) q) → OperationBecame Next r (apply p)
+      → ((k : ℕ) (q : Projection) → apply p ≡ done q → Table k exit (list q) → Next (put k) q) → Became Next r (apply p)
   changed_became p s v Next next =
-      subst (λ x. OperationBecame Next x (apply p)) (sym c.told) (counted_became put (λ k q. Table k exit (list q)) Next c.change (apply p) next (c.made p s v))
+      subst (λ x. Became Next x (apply p)) (sym c.told) (counted_became put (λ k q. Table k exit (list q)) Next c.change (apply p) next (c.made p s v))
 
 -- ---- the three tables
 
 -- what the contract says of an operation, with the tables before and after
-abbrev pub Planned : ProjectionCounts → (b a e b' a' e' : List ℕ) → (id source : ℕ) → ProjectionPatchOperation → OperationChange → Type 0
+abbrev pub Planned : ProjectionCounts → (b a e b' a' e' : List ℕ) → (id source : ℕ) → ProjectionPatchOperation → Result ProjectionCounts LocalProjectionApplicationError → Type 0
 Planned n b a e b' a' e' id source operation r =
-    ((ed : Edition) (p : Projection) → StoredPlan n b a e p → FitsOperation ed (planned_operation source operation) → OperationBecame (λ m q. StoredPlan m b' a' e' q) r (apply_operation p id (planned_operation source operation)))
-    × AfterRefusal ((b' ≡ b) × (a' ≡ a) × (e' ≡ e)) r
+    ((ed : Edition) (p : Projection) → StoredPlan n b a e p → FitsOperation ed (planned_operation source operation) → Became (λ m q. StoredPlan m b' a' e' q) r (apply_operation p id (planned_operation source operation)))
+    × OnErr r ((b' ≡ b) × (a' ≡ a) × (e' ≡ e))
 
-module _ (n : ProjectionCounts) (b a e exit : List ℕ) (id : ℕ) (u : U64 id) (source : ℕ) (operation o : ProjectionPatchOperation) (told : operation ≡ o) (r : OperationChange) where
+module _ (n : ProjectionCounts) (b a e exit : List ℕ) (id : ℕ) (u : U64 id) (source : ℕ) (operation o : ProjectionPatchOperation) (told : operation ≡ o) (r : Result ProjectionCounts LocalProjectionApplicationError) where
   abbrev applied : Projection → Outcome
   applied p = apply_operation p id (planned_operation source o)
 

@@ -2,7 +2,7 @@
 // After crates/prom-ui/src/local_projection_state.rs.
 #![tactic(auto)]
 
-ghost use Rattle.std.specs.Prelude.{◌≡◌};
+ghost use Rattle.std.specs.Prelude.{◌≡◌, OnErr};
 ghost use Rattle.spec_patch.specs.Edition.{Edition};
 ghost use Rattle.spec_patch.specs.Fits.{FitsOperation};
 ghost use Rattle.spec_patch.specs.Patch.{unsigned};
@@ -12,60 +12,13 @@ ghost use Rattle.spec_projection.specs.Entries.{is_entry};
 ghost use Rattle.spec_projection.specs.Apply.{apply_binding, apply_availability, apply_insert, apply_update, apply_remove, apply_move, apply_operation};
 ghost use Rattle.projection_patch.specs.Meaning.{availability_value_of, before_of};
 ghost use Rattle.panel_plan.specs.PlanRows.{StoredPlan};
-ghost use Rattle.panel_operations.specs.OperationChange.{planned_operation, OperationBecame, AfterRefusal, counted_change, bindings_now, availabilities_now, entries_now, BindingsChanged, AvailabilitiesChanged, EntriesChanged};
+ghost use Rattle.panel_bindings.specs.Change.{Became};
+ghost use Rattle.panel_operations.specs.OperationChange.{planned_operation, BindingsChanged, AvailabilitiesChanged, EntriesChanged};
 
 use local_projection_state::{LocalProjectionApplicationError, ProjectionCounts};
-use panel_bindings::TableChange;
 use projection_patch::binding_graph::BindingTarget;
 use projection_patch::contract_primitives::{CollectionKey, StaticNodeId};
 use projection_patch::patch::{OptionalKey, ProjectionNodeAvailability, ProjectionPatchOperation};
-
-// How many rows each table has now, or why the operation is refused and nothing is changed.
-#[derive(Drop)]
-pub enum OperationChange {
-    Applied(ProjectionCounts),
-    Refused(LocalProjectionApplicationError),
-}
-
-// The counts with what one table answers.
-fn bindings_counted(counts: ProjectionCounts, change: TableChange) -> OperationChange
-    ensures { result ≡ counted_change (bindings_now counts) change }
-{
-    match change {
-        TableChange::Applied(n) => OperationChange::Applied(ProjectionCounts {
-            bindings: n,
-            availabilities: counts.availabilities,
-            entries: counts.entries,
-        }),
-        TableChange::Refused(error) => OperationChange::Refused(error),
-    }
-}
-
-fn availabilities_counted(counts: ProjectionCounts, change: TableChange) -> OperationChange
-    ensures { result ≡ counted_change (availabilities_now counts) change }
-{
-    match change {
-        TableChange::Applied(n) => OperationChange::Applied(ProjectionCounts {
-            bindings: counts.bindings,
-            availabilities: n,
-            entries: counts.entries,
-        }),
-        TableChange::Refused(error) => OperationChange::Refused(error),
-    }
-}
-
-fn entries_counted(counts: ProjectionCounts, change: TableChange) -> OperationChange
-    ensures { result ≡ counted_change (entries_now counts) change }
-{
-    match change {
-        TableChange::Applied(n) => OperationChange::Applied(ProjectionCounts {
-            bindings: counts.bindings,
-            availabilities: counts.availabilities,
-            entries: n,
-        }),
-        TableChange::Refused(error) => OperationChange::Refused(error),
-    }
-}
 
 fn set_binding(
     table: &mut [u8],
@@ -73,15 +26,20 @@ fn set_binding(
     target: BindingTarget,
     patch: u64,
     source: u64,
-) -> OperationChange
+) -> Result<ProjectionCounts, LocalProjectionApplicationError>
     ensures { BindingsChanged counts table.old table.new
         (λ p. apply_binding p (record { node = target.node.0; slot = target.slot.0; mark = patch; value = unsigned source })) result }
 {
-    let node = target.node;
-    let slot = target.slot;
-    let n = counts.bindings;
-    let change = panel_bindings::set_binding_source(table, n, node.raw(), slot.0, patch, source);
-    bindings_counted(counts, change)
+    let (node, slot, held) = (target.node, target.slot, counts.bindings);
+    let bindings = panel_bindings::set_binding_source(
+        table,
+        held,
+        node.raw(),
+        slot.0,
+        patch,
+        source,
+    )?;
+    Ok(ProjectionCounts { bindings, ..counts })
 }
 
 fn set_availability(
@@ -90,13 +48,22 @@ fn set_availability(
     node: StaticNodeId,
     patch: u64,
     availability: ProjectionNodeAvailability,
-) -> OperationChange
+) -> Result<ProjectionCounts, LocalProjectionApplicationError>
     ensures { AvailabilitiesChanged counts table.old table.new
         (λ p. apply_availability p (record { node = node.0; mark = patch; availability = availability_value_of availability })) result }
 {
-    let n = counts.availabilities;
-    let change = panel_bindings::set_node_availability(table, n, node.raw(), patch, availability);
-    availabilities_counted(counts, change)
+    let held = counts.availabilities;
+    let availabilities = panel_bindings::set_node_availability(
+        table,
+        held,
+        node.raw(),
+        patch,
+        availability,
+    )?;
+    Ok(ProjectionCounts {
+        availabilities,
+        ..counts
+    })
 }
 
 fn insert(
@@ -107,21 +74,23 @@ fn insert(
     before: OptionalKey,
     patch: u64,
     source: u64,
-) -> OperationChange
+) -> Result<ProjectionCounts, LocalProjectionApplicationError>
     ensures { EntriesChanged counts table.old table.new
         (λ p. apply_insert p (before_of before) (record { collection = collection.0; key = key.0; mark = patch; value = unsigned source })) result }
 {
-    let n = counts.entries;
-    let change = panel_entries::insert_entry(
+    let more = panel_entries::insert_entry(
         table,
-        n,
+        counts.entries,
         collection.raw(),
         key.raw(),
         before,
         patch,
         source,
-    );
-    entries_counted(counts, change)
+    )?;
+    Ok(ProjectionCounts {
+        entries: more,
+        ..counts
+    })
 }
 
 fn update(
@@ -131,13 +100,19 @@ fn update(
     key: CollectionKey,
     patch: u64,
     source: u64,
-) -> OperationChange
+) -> Result<ProjectionCounts, LocalProjectionApplicationError>
     ensures { EntriesChanged counts table.old table.new
         (λ p. apply_update p (record { collection = collection.0; key = key.0; mark = patch; value = unsigned source })) result }
 {
-    let n = counts.entries;
-    let change = panel_entries::update_entry(table, n, collection.raw(), key.raw(), patch, source);
-    entries_counted(counts, change)
+    let entries = panel_entries::update_entry(
+        table,
+        counts.entries,
+        collection.raw(),
+        key.raw(),
+        patch,
+        source,
+    )?;
+    Ok(ProjectionCounts { entries, ..counts })
 }
 
 fn remove(
@@ -145,12 +120,11 @@ fn remove(
     counts: ProjectionCounts,
     collection: StaticNodeId,
     key: CollectionKey,
-) -> OperationChange
+) -> Result<ProjectionCounts, LocalProjectionApplicationError>
     ensures { EntriesChanged counts table.old table.new (λ p. apply_remove p collection.0 key.0) result }
 {
-    let n = counts.entries;
-    let change = panel_entries::remove_entry(table, n, collection.raw(), key.raw());
-    entries_counted(counts, change)
+    let entries = panel_entries::remove_entry(table, counts.entries, collection.raw(), key.raw())?;
+    Ok(ProjectionCounts { entries, ..counts })
 }
 
 fn move_before(
@@ -159,16 +133,22 @@ fn move_before(
     collection: StaticNodeId,
     key: CollectionKey,
     before: OptionalKey,
-) -> OperationChange
+) -> Result<ProjectionCounts, LocalProjectionApplicationError>
     ensures { EntriesChanged counts table.old table.new
         (λ p. apply_move p (before_of before) (find_first (is_entry collection.0 key.0) p.entries)) result }
 {
-    let n = counts.entries;
-    let change = panel_entries::move_entry(table, n, collection.raw(), key.raw(), before);
-    entries_counted(counts, change)
+    let entries = panel_entries::move_entry(
+        table,
+        counts.entries,
+        collection.raw(),
+        key.raw(),
+        before,
+    )?;
+    Ok(ProjectionCounts { entries, ..counts })
 }
 
-// Plans an operation of the patch of that id, with a source for its value. A refusal leaves every byte, whatever stands in the tables.
+// Plans an operation of the patch of that id, with a source for its value. Answers how many rows each table has now. A refusal leaves every
+// byte, whatever stands in the tables.
 pub fn apply_operation(
     bindings: &mut [u8],
     availability: &mut [u8],
@@ -177,12 +157,12 @@ pub fn apply_operation(
     patch: u64,
     operation: ProjectionPatchOperation,
     source: u64,
-) -> OperationChange
+) -> Result<ProjectionCounts, LocalProjectionApplicationError>
     ensures made { (ed : Edition) (p : Projection) → StoredPlan counts bindings.old availability.old entries.old p
         → FitsOperation ed (planned_operation source operation)
-        → OperationBecame (λ m q. StoredPlan m bindings.new availability.new entries.new q) result (apply_operation p patch (planned_operation source operation)) }
-    ensures kept { AfterRefusal
-        ((bindings.new ≡ bindings.old) × (availability.new ≡ availability.old) × (entries.new ≡ entries.old)) result }
+        → Became (λ m q. StoredPlan m bindings.new availability.new entries.new q) result (apply_operation p patch (planned_operation source operation)) }
+    ensures kept { OnErr result
+        ((bindings.new ≡ bindings.old) × (availability.new ≡ availability.old) × (entries.new ≡ entries.old)) }
 {
     match operation {
         ProjectionPatchOperation::SetBindingValue { target, value: _ } => set_binding(

@@ -42,16 +42,16 @@ use Rattle.panel_plan.specs.SetValues.{value_in, value_offset, StandsAt}
 use Rattle.panel_plan.proofs.SetValuesLaws.{value_there, value_stands}
 use Rattle.panel_plan.proofs.SourcesLaws.{plan_sourced, operation_sourced}
 use Rattle.local_projection_state.specs.declared.LocalProjectionApplicationError.{LocalProjectionApplicationError}
-use Rattle.panel_operations.specs.OperationChange.{planned_operation, OperationBecame, AfterRefusal}
+use Rattle.panel_operations.specs.OperationChange.{planned_operation}
 use Rattle.panel_operations.specs.OperationLaws.{planned_is}
-use Rattle.panel_operations.specs.declared.OperationChange.{OperationChange}
-use Rattle.panel_operations.specs.declared.OperationChange.TheVariants as operation
 use Rattle.patch_walk.specs.contracts.SetStep as set-steps
 use Rattle.panel_steps.specs.Runs.{run_head, RunBecame, PlannedAs, RunWalked, patches_passed, patch_index, operation_index, HaltsAt, RunTold}
 use Rattle.panel_steps.specs.Walking.{Walking, walk_start, walk_counted, walk_end, walk_head, walk_on_lem, walk_halts}
 use Rattle.panel_steps.specs.declared.HeadStep.TheVariants as head_step
 use Rattle.panel_steps.specs.declared.PlanRun.{PlanRun}
 use Rattle.panel_steps.specs.declared.PlanRun.TheVariants.{Planned, Refused}
+use Rattle.std.specs.Prelude.{Result, Ok, Err, OnErr}
+use Rattle.panel_bindings.specs.Change.{Became}
 
 -- the bytes before a value are as many, whatever the value
 pub offset_is : (texts : List ℕ) (o : ProjectionPatchOperation) → value_offset (operation_of texts o) ≡ value_offset (operation_of [] o)
@@ -118,20 +118,20 @@ pub record Running (ed : Edition) (p : Projection) (all : List Patch) (set : Lis
   pub same : apply_steps model (map (step_of c.patch_id) walk.os ++ replay_steps walk.ps) ≡ apply_steps p (replay_steps all)
 
 -- what an operation's answer makes of a run: it goes on, or the tables are as before, and the answer is the operation's refusal
-abbrev AfterTurn : Edition → Projection → List Patch → List ℕ → (c d : SetCursor) → ProjectionCounts → (b a e b' a' e' : List ℕ) → OperationChange → Type 0
-AfterTurn ed p all set c d n b a e b' a' e' (operation.Applied m) = Running ed p all set d m b' a' e'
-AfterTurn ed p all set c d n b a e b' a' e' (operation.Refused error) = RunTold ed p all set b a e (Refused error c n)
+abbrev AfterTurn : Edition → Projection → List Patch → List ℕ → (c d : SetCursor) → ProjectionCounts → (b a e b' a' e' : List ℕ) → Result ProjectionCounts LocalProjectionApplicationError → Type 0
+AfterTurn ed p all set c d n b a e b' a' e' (Ok m) = Running ed p all set d m b' a' e'
+AfterTurn ed p all set c d n b a e b' a' e' (Err error) = RunTold ed p all set b a e (Refused error c n)
 
-pub record Turned (ed : Edition) (p : Projection) (all : List Patch) (set : List ℕ) (c d : SetCursor) (n : ProjectionCounts) (b a e b' a' e' : List ℕ) (r : OperationChange) : Type 0 where
+pub record Turned (ed : Edition) (p : Projection) (all : List Patch) (set : List ℕ) (c d : SetCursor) (n : ProjectionCounts) (b a e b' a' e' : List ℕ) (r : Result ProjectionCounts LocalProjectionApplicationError) : Type 0 where
   after : AfterTurn ed p all set c d n b a e b' a' e' r
 
-module _ {ed : Edition} {p : Projection} {all : List Patch} {set : List ℕ} {c d : SetCursor} {n : ProjectionCounts} {b a e b' a' e' : List ℕ} {r : OperationChange} (t : Turned ed p all set c d n b a e b' a' e' r) where
-  pub turned_on : {m : ProjectionCounts} → r ≡ operation.Applied m → Running ed p all set d m b' a' e'
+module _ {ed : Edition} {p : Projection} {all : List Patch} {set : List ℕ} {c d : SetCursor} {n : ProjectionCounts} {b a e b' a' e' : List ℕ} {r : Result ProjectionCounts LocalProjectionApplicationError} (t : Turned ed p all set c d n b a e b' a' e' r) where
+  pub turned_on : {m : ProjectionCounts} → r ≡ Ok m → Running ed p all set d m b' a' e'
   turned_on is = subst (AfterTurn ed p all set c d n b a e b' a' e') is t.after
 
-  pub turned_stop : {error : LocalProjectionApplicationError} → r ≡ operation.Refused error → AfterRefusal ((b' ≡ b) × (a' ≡ a) × (e' ≡ e)) r → RunTold ed p all set b' a' e' (Refused error c n)
+  pub turned_stop : {error : LocalProjectionApplicationError} → r ≡ Err error → OnErr r ((b' ≡ b) × (a' ≡ a) × (e' ≡ e)) → RunTold ed p all set b' a' e' (Refused error c n)
   turned_stop {error} is kept =
-      let same = subst (AfterRefusal ((b' ≡ b) × (a' ≡ a) × (e' ≡ e))) is kept in
+      let same = subst (λ x. OnErr x ((b' ≡ b) × (a' ≡ a) × (e' ≡ e))) is kept in
       let told = subst (AfterTurn ed p all set c d n b a e b' a' e') is t.after in
       subst (λ (l : List ℕ). RunTold ed p all set l a' e' (Refused error c n)) (sym same.0)
       (subst (λ (l : List ℕ). RunTold ed p all set b l e' (Refused error c n)) (sym same.1) (subst (λ (l : List ℕ). RunTold ed p all set b a l (Refused error c n)) (sym same.2) told))
@@ -254,12 +254,12 @@ module _ {ed : Edition} {p : Projection} {set : List ℕ} where
           (omega arith) (omega arith) (omega (arith, run.few_operations))
 
       -- the run after the operation, or the answer: the operation's refusal
-      pub run_turn : (b' a' e' : List ℕ) (r : OperationChange) → OperationBecame (λ m q. StoredPlan m b' a' e' q) r planning → Turned ed p all set c d n b a e b' a' e' r
+      pub run_turn : (b' a' e' : List ℕ) (r : Result ProjectionCounts LocalProjectionApplicationError) → Became (λ m q. StoredPlan m b' a' e' q) r planning → Turned ed p all set c d n b a e b' a' e' r
       unfolding kept_projection walk_behind walk_on_lem walk_counted
       run_turn b' a' e' r became = record { after = go r planning refl became }
         where
-          go : (r : OperationChange) (y : Outcome) → planning ≡ y → OperationBecame (λ m q. StoredPlan m b' a' e' q) r y → AfterTurn ed p all set c d n b a e b' a' e' r
-          go (operation.Applied m) (done q) gives h = record {
+          go : (r : Result ProjectionCounts LocalProjectionApplicationError) (y : Outcome) → planning ≡ y → Became (λ m q. StoredPlan m b' a' e' q) r y → AfterTurn ed p all set c d n b a e b' a' e' r
+          go (Ok m) (done q) gives h = record {
             model = resolved R q;
             planned = record {
               plan = q;
@@ -272,9 +272,9 @@ module _ {ed : Edition} {p : Projection} {set : List ℕ} where
             few_operations = omega (arith, run.few_operations, ap (λ (x : SetCursor). x.operations_left) v.behind, ap (λ (x : SetCursor). x.operation_count) v.behind);
             same = ap (λ (f : SetCursor). apply_steps (resolved R q) (map (step_of f.patch_id) v.rest ++ replay_steps run.walk.ps)) v.behind ∙ by_step (done q) gives;
           }
-          go (operation.Applied m) (stopped f) gives h = absurd h
-          go (operation.Refused error) (done q) gives h = absurd h
-          go (operation.Refused error) (stopped f) gives h = record {
+          go (Ok m) (stopped f) gives h = absurd h
+          go (Err error) (done q) gives h = absurd h
+          go (Err error) (stopped f) gives h = record {
             became = subst (RunBecame (PlannedAs ed p set b a e) (Refused error c n)) (by_step (stopped f) gives) h;
             walked = subst (RunWalked (PlannedAs ed p set b a e) (HaltsAt ed set (length all)) (Refused error c n)) (sym (walk_halts step_kept ed set _ run.walk v (kept (stopped f) gives)))
                 (run.planned, record { later = v.rest; rest = run.walk.ps; here = subst (λ os. AtSteps ed set c os run.walk.ps) v.is run.walk.here; patch = refl; operation = refl });

@@ -18,7 +18,6 @@ ghost use Rattle.panel_steps.specs.Runs.{run_head, RunTold};
 use local_projection_state::{
     LocalProjectionApplicationError, LocalProjectionState, ProjectionCounts,
 };
-use panel_operations::OperationChange;
 use patch_walk::{SetCursor, SetStep};
 use projection_patch::patch::{OptionalKey, ProjectionPatchEdition, ProjectionPatchOperation};
 use projection_patch::read_values::ProjectionPatchReadFault;
@@ -120,11 +119,11 @@ pub fn plan_steps(
                 operation,
                 source,
             ) {
-                OperationChange::Applied(n) => {
+                Ok(n) => {
                     held = n;
                     cursor = next;
                 }
-                OperationChange::Refused(error) => {
+                Err(error) => {
                     return PlanRun::Refused(error, cursor, held);
                 }
             }

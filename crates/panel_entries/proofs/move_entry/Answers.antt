@@ -9,8 +9,8 @@ use Rattle.panel_entries.proofs.move_entry.Goals as goal
 pub move_row-requires : goal.move_row-requires
 move_row-requires c = (within_at _ _ c.in-Some.is c.find_entry.ensures.within, position_at _ _ c.in-Some-place_before_other.is c.place_before_other.ensures.within)
 
-pub returns-in-Some-place_before_other : goal.returns-in-Some-place_before_other
-returns-in-Some-place_before_other c =
+pub returns : goal.returns
+returns c =
     record {
       made = (λ p s v.
           moved_there c.move_row.new.table (search rules) p s v _ _ _ _ _
@@ -19,20 +19,20 @@ returns-in-Some-place_before_other c =
       kept = search rules;
     }
 
-pub returns-in-None-place_before_other : goal.returns-in-None-place_before_other
-returns-in-None-place_before_other c =
+pub returns-in_default-place_before_other : goal.returns-in_default-place_before_other
+returns-in_default-place_before_other c =
     record {
       made = (λ p s v.
           no_other c.args.table.now p v _ _ _ _
           (sym (c.find_entry.ensures.first planned_entry_row planned_keyed p.entries v.fit_entries v.entries s.rows) ∙ c.in-Some.is)
-          (sym (c.place_before_other.ensures.first p.entries v.fit_entries v.entries s.rows) ∙ c.in-None-place_before_other.is));
+          (sym (c.place_before_other.ensures.first p.entries v.fit_entries v.entries s.rows) ∙ c.in_default-place_before_other.is));
       kept = refl;
     }
 
-pub returns-in-None : goal.returns-in-None
-returns-in-None c =
+pub returns-in_default : goal.returns-in_default
+returns-in_default c =
     record {
       made = (λ p s v.
-          not_moved c.args.table.now p v _ _ _ (sym (c.find_entry.ensures.first planned_entry_row planned_keyed p.entries v.fit_entries v.entries s.rows) ∙ c.in-None.is));
+          not_moved c.args.table.now p v _ _ _ (sym (c.find_entry.ensures.first planned_entry_row planned_keyed p.entries v.fit_entries v.entries s.rows) ∙ c.in_default.is));
       kept = refl;
     }

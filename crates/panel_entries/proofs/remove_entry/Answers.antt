@@ -10,8 +10,8 @@ use Rattle.panel_entries.proofs.remove_entry.Goals as goal
 pub overflow_sub-result : goal.overflow_sub-result
 overflow_sub-result c = omega (arith, within_at _ _ c.in-Some.is c.find_entry.ensures.within)
 
-pub returns-in-Some : goal.returns-in-Some
-returns-in-Some c =
+pub returns : goal.returns
+returns c =
     record {
       made = (λ p s v.
           removed_there c.remove_record.new.table (search rules) p s _ _ _
@@ -19,10 +19,10 @@ returns-in-Some c =
       kept = search rules;
     }
 
-pub returns-in-None : goal.returns-in-None
-returns-in-None c =
+pub returns-in_default : goal.returns-in_default
+returns-in_default c =
     record {
       made = (λ p s v.
-          not_removed c.args.table.now p _ _ (sym (c.find_entry.ensures.first planned_entry_row planned_keyed p.entries v.fit_entries v.entries s.rows) ∙ c.in-None.is));
+          not_removed c.args.table.now p _ _ (sym (c.find_entry.ensures.first planned_entry_row planned_keyed p.entries v.fit_entries v.entries s.rows) ∙ c.in_default.is));
       kept = refl;
     }

@@ -6,8 +6,8 @@ use Rattle.panel_entries.specs.EntryRowsLaws.{planned_keyed}
 use Rattle.panel_entries.proofs.Entries.{updated, not_updated}
 use Rattle.panel_entries.proofs.update_entry.Goals as goal
 
-pub returns-in-Some : goal.returns-in-Some
-returns-in-Some c =
+pub returns : goal.returns
+returns c =
     record {
       made = (λ p s v.
           updated c.replace_record.new.table (search rules) p s _ c.entry_row-row.result c.entry_row-row.ensures (search rules) _
@@ -15,10 +15,10 @@ returns-in-Some c =
       kept = search rules;
     }
 
-pub returns-in-None : goal.returns-in-None
-returns-in-None c =
+pub returns-in_default : goal.returns-in_default
+returns-in_default c =
     record {
       made = (λ p s v.
-          not_updated c.args.table.now p _ (sym (c.find_entry.ensures.first planned_entry_row planned_keyed p.entries v.fit_entries v.entries s.rows) ∙ c.in-None.is));
+          not_updated c.args.table.now p _ (sym (c.find_entry.ensures.first planned_entry_row planned_keyed p.entries v.fit_entries v.entries s.rows) ∙ c.in_default.is));
       kept = refl;
     }

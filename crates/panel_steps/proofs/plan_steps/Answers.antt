@@ -77,8 +77,8 @@ loop-cursor-smaller c =
 
 pub loop-cursor-preserved : goal.loop-cursor-preserved
 loop-cursor-preserved c =
-    (search (rules, c.apply_operation.auto.bindings, c.loop-cursor.invariant.0), search (rules, c.apply_operation.auto.availability, c.loop-cursor.invariant.1), search (rules, c.apply_operation.auto.entries, c.loop-cursor.invariant.2), λ p ps v s h. turned_on (turn (goal.at.loop-cursor-preserved c).After-apply_operation p ps (c.loop-cursor.invariant.3 p ps v s h)) c.in-Applied.is)
+    (search (rules, c.apply_operation.auto.bindings, c.loop-cursor.invariant.0), search (rules, c.apply_operation.auto.availability, c.loop-cursor.invariant.1), search (rules, c.apply_operation.auto.entries, c.loop-cursor.invariant.2), λ p ps v s h. turned_on (turn (goal.at.loop-cursor-preserved c).After-apply_operation p ps (c.loop-cursor.invariant.3 p ps v s h)) c.in-Ok.is)
 
-pub returns-in-Refused : goal.returns-in-Refused
-returns-in-Refused c =
-    λ p ps v s h. turned_stop (turn (goal.at.returns-in-Refused c).After-apply_operation p ps (c.loop-cursor.invariant.3 p ps v s h)) c.in-Refused.is c.apply_operation.ensures.kept
+pub returns-in-Err : goal.returns-in-Err
+returns-in-Err c =
+    λ p ps v s h. turned_stop (turn (goal.at.returns-in-Err c).After-apply_operation p ps (c.loop-cursor.invariant.3 p ps v s h)) c.in-Err.is c.apply_operation.ensures.kept
