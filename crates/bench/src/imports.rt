@@ -1,5 +1,4 @@
 // Bringing in of one term list.
-use patch_import::answer::ImportAnswer;
 use projection_patch::contract_primitives::{Epoch, Revision, StaticDocumentId};
 use projection_patch::patch::{
     OptionalSurfaceId, ProjectionPatchEdition, ProjectionPatchEnvelope, ProjectionPatchId,
@@ -19,8 +18,8 @@ fn import(list: &[u8], sequence: u64, out: &mut [u8]) -> u64 {
         sequence: ProjectionPatchSequence::new(sequence),
     };
     match patch_import::import_terms(list, ProjectionPatchEdition::V1, 9, envelope, out) {
-        ImportAnswer::Imported(size) => size as u64,
-        ImportAnswer::Refused(refusal) => refusal.number(),
+        Ok(size) => size as u64,
+        Err(refusal) => refusal.number(),
     }
 }
 

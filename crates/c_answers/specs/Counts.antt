@@ -21,11 +21,9 @@ use Rattle.session_lent_views.specs.declared.page.LentPage.TheVariants as paged
 use Rattle.session_lent_views.specs.declared.print.LentPrint.{LentPrint}
 use Rattle.session_lent_views.specs.declared.print.LentPrint.TheVariants as print
 use Rattle.patch_import.specs.Answers.{import_refusal_of}
-use Rattle.patch_import.specs.declared.answer.ImportAnswer.{ImportAnswer}
-use Rattle.patch_import.specs.declared.answer.ImportAnswer.TheVariants as imports
+use Rattle.patch_import.specs.declared.answer.ImportRefusal.{ImportRefusal}
 use Rattle.patch_converter.specs.Answers.{conversion_refusal_of}
-use Rattle.patch_converter.specs.declared.ConversionAnswer.{ConversionAnswer}
-use Rattle.patch_converter.specs.declared.ConversionAnswer.TheVariants as conversion
+use Rattle.patch_converter.specs.declared.ConversionRefusal.{ConversionRefusal}
 use Rattle.c_answers.specs.declared.counts.GeysertrayCount.{GeysertrayCount}
 
 -- so many
@@ -74,10 +72,10 @@ page_told paged.NoSession = not_counted 3
 
 -- ---- sets that are written
 
-abbrev pub import_told : ImportAnswer → GeysertrayCount
-import_told (imports.Imported n) = counted_to n
-import_told (imports.Refused f) = refused_to (import_number (import_refusal_of f))
+abbrev pub import_told : Result ℕ ImportRefusal → GeysertrayCount
+import_told (Ok n) = counted_to n
+import_told (Err f) = refused_to (import_number (import_refusal_of f))
 
-abbrev pub conversion_told : ConversionAnswer → GeysertrayCount
-conversion_told (conversion.Converted n) = counted_to n
-conversion_told (conversion.Refused f) = refused_to (conversion_number (conversion_refusal_of f))
+abbrev pub conversion_told : Result ℕ ConversionRefusal → GeysertrayCount
+conversion_told (Ok n) = counted_to n
+conversion_told (Err f) = refused_to (conversion_number (conversion_refusal_of f))

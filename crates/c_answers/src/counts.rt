@@ -4,8 +4,8 @@ ghost use Rattle.c_answers.specs.Counts.{counted_to, refused_to, not_counted, co
 
 use panel_page::PageAnswer;
 use panel_print::PrintAnswer;
-use patch_converter::ConversionAnswer;
-use patch_import::answer::ImportAnswer;
+use patch_converter::ConversionRefusal;
+use patch_import::answer::ImportRefusal;
 use patch_part_writer::written::WriteRefusal;
 use session_lent_views::listing::LentListing;
 use session_lent_views::lookups::LentCount;
@@ -116,20 +116,20 @@ pub fn page_told(answer: LentPage) -> GeysertrayCount
     }
 }
 
-pub fn import_told(answer: ImportAnswer) -> GeysertrayCount
+pub fn import_told(answer: Result<usize, ImportRefusal>) -> GeysertrayCount
     ensures { result ≡ import_told answer }
 {
     match answer {
-        ImportAnswer::Imported(n) => counted(n),
-        ImportAnswer::Refused(refusal) => refused(refusal.number()),
+        Ok(n) => counted(n),
+        Err(refusal) => refused(refusal.number()),
     }
 }
 
-pub fn conversion_told(answer: ConversionAnswer) -> GeysertrayCount
+pub fn conversion_told(answer: Result<usize, ConversionRefusal>) -> GeysertrayCount
     ensures { result ≡ conversion_told answer }
 {
     match answer {
-        ConversionAnswer::Converted(n) => counted(n),
-        ConversionAnswer::Refused(refusal) => refused(refusal.number()),
+        Ok(n) => counted(n),
+        Err(refusal) => refused(refusal.number()),
     }
 }

@@ -1,12 +1,10 @@
 -- What the call that converts answers, and what it leaves of the output.
-use Rattle.std.specs.Prelude.{ℕ, List, ◌++◌, length, drop}
+use Rattle.std.specs.Prelude.{ℕ, List, ◌++◌, length, drop, Result, Ok, Err}
 use Rattle.spec_conversion.specs.Conversion as model
 use Rattle.projection_patch.specs.ReadAnswers.{fault_of}
 use Rattle.projection_patch.specs.declared.read_values.ProjectionPatchReadFault.{ProjectionPatchReadFault}
 use Rattle.patch_converter.specs.declared.ConversionRefusal.{ConversionRefusal}
 use Rattle.patch_converter.specs.declared.ConversionRefusal.TheVariants.{OverCapacity, Malformed, KindMissing, OutputTooShort}
-use Rattle.patch_converter.specs.declared.ConversionAnswer.{ConversionAnswer}
-use Rattle.patch_converter.specs.declared.ConversionAnswer.TheVariants.{Converted, Refused}
 
 abbrev pub conversion_refusal_of : ConversionRefusal → model.ConversionRefusal
 conversion_refusal_of OverCapacity = model.over_capacity
@@ -25,9 +23,9 @@ abbrev pub unread_to : ProjectionPatchReadFault → ConversionRefusal
 unread_to f = conversion_refusal_to (model.unread (fault_of f))
 
 -- the length
-abbrev pub conversion_answer : model.Converted → ConversionAnswer
-conversion_answer (model.converted bs) = Converted (length bs)
-conversion_answer (model.refused n) = Refused (conversion_refusal_to n)
+abbrev pub conversion_answer : model.Converted → Result ℕ ConversionRefusal
+conversion_answer (model.converted bs) = Ok (length bs)
+conversion_answer (model.refused n) = Err (conversion_refusal_to n)
 
 -- the bytes, and the rest of the output as it was
 abbrev pub conversion_output : List ℕ → model.Converted → List ℕ

@@ -1,5 +1,5 @@
 -- What a conversion is, by what reading the set, the kinds of its values and the room for it say; and what was written is read back.
-use Rattle.std.specs.Prelude.{ℕ, ◌+◌, ◌≤◌, ◌<◌, ◌≡◌, refl, true, List, ◌∷◌, ◌++◌, length, take, drop}
+use Rattle.std.specs.Prelude.{ℕ, ◌+◌, ◌≤◌, ◌<◌, ◌≡◌, refl, true, List, ◌∷◌, ◌++◌, length, take, drop, Result, Ok, Err}
 use Rattle.std.proofs.Common.{sym, ◌∙◌, arith, length-append, length-drop, take_at, length-take-le}
 use Rattle.std.proofs.Math.Path.{ap}
 use Rattle.std.proofs.Math.Bool.{false}
@@ -21,8 +21,7 @@ use Rattle.projection_patch.specs.declared.read_values.ProjectionPatchReadFault.
 use Rattle.projection_patch.specs.declared.read_values.ProjectionPatchReadFault.TheVariants.{Malformed, OverCapacity}
 use Rattle.patch_walk.specs.SetReads.{set_answer}
 use Rattle.patch_walk.specs.declared.SetRead.TheVariants as set-read
-use Rattle.patch_converter.specs.declared.ConversionAnswer.{ConversionAnswer}
-use Rattle.patch_converter.specs.declared.ConversionAnswer.TheVariants.{Converted, Refused}
+use Rattle.patch_converter.specs.declared.ConversionRefusal.{ConversionRefusal}
 use Rattle.patch_converter.specs.Answers.{conversion_refusal_to, conversion_answer, conversion_output}
 
 module _ (from : Edition) (set : List ℕ) where
@@ -83,26 +82,26 @@ letter_length set d h = length-append (take 30 set) (d ∷ drop 31 set) ∙ omeg
 
 module _ (out : List ℕ) where
   -- what both clauses of the contract say
-  abbrev pub ConversionLeft : model.Converted → ConversionAnswer → List ℕ → Type 0
+  abbrev pub ConversionLeft : model.Converted → Result ℕ ConversionRefusal → List ℕ → Type 0
   ConversionLeft w r after = (r ≡ conversion_answer w) × (after ≡ conversion_output out w)
 
-  pub left_unconverted : {w : model.Converted} (n : model.ConversionRefusal) → w ≡ model.refused n → ConversionLeft w (Refused (conversion_refusal_to n)) out
+  pub left_unconverted : {w : model.Converted} (n : model.ConversionRefusal) → w ≡ model.refused n → ConversionLeft w (Err (conversion_refusal_to n)) out
   left_unconverted n e = (sym (ap conversion_answer e), sym (ap (conversion_output out) e))
 
-  pub left_converted : {w : model.Converted} (bs : List ℕ) → w ≡ model.converted bs → (n : ℕ) → length bs ≡ n → n ≤ length out → (after : List ℕ) → after ≡ overwrite out 0 bs → ConversionLeft w (Converted n) after
+  pub left_converted : {w : model.Converted} (bs : List ℕ) → w ≡ model.converted bs → (n : ℕ) → length bs ≡ n → n ≤ length out → (after : List ℕ) → after ≡ overwrite out 0 bs → ConversionLeft w (Ok n) after
   left_converted bs e n long room after is =
       let none : 0 + n ≡ n = omega arith in (
-        ap Converted (sym long) ∙ sym (ap conversion_answer e),
+        ap Ok (sym long) ∙ sym (ap conversion_answer e),
         is ∙ overwrite_in_place out 0 bs n long (has_room_lem out 0 n (omega arith)) ∙ ap (λ (k : ℕ). bs ++ drop k out) (none ∙ sym long) ∙ sym (ap (conversion_output out) e),
       )
 
 -- what was written is read in the other edition as the set is read in its own
-pub converted_read : (from : Edition) (set : List ℕ) → Bytes set → (out : List ℕ) (r : ConversionAnswer) (after : List ℕ) → ConversionLeft out (convert from set (length out)) r after
-    → (n : ℕ) → r ≡ Converted n → read_set (other_edition from) (take n after) ≡ read_set from set
+pub converted_read : (from : Edition) (set : List ℕ) → Bytes set → (out : List ℕ) (r : Result ℕ ConversionRefusal) (after : List ℕ) → ConversionLeft out (convert from set (length out)) r after
+    → (n : ℕ) → r ≡ Ok n → read_set (other_edition from) (take n after) ≡ read_set from set
 unfolding convert
 converted_read from set all_bytes out r after h n e = ap (λ (l : List ℕ). read_set (other_edition from) (take n l)) h.1 ∙ go (convert from set (length out)) refl (sym h.0 ∙ e)
   where
-    go : (w : model.Converted) → convert from set (length out) ≡ w → conversion_answer w ≡ Converted n → read_set (other_edition from) (take n (conversion_output out w)) ≡ read_set from set
+    go : (w : model.Converted) → convert from set (length out) ≡ w → conversion_answer w ≡ Ok n → read_set (other_edition from) (take n (conversion_output out w)) ≡ read_set from set
     go (model.converted bs) is e =
         let long : length bs ≡ n = cc in
         ap (read_set (other_edition from)) (take_at bs (drop (length bs) out) n long) ∙ same_list from (other_edition from) set all_bytes (length out) bs is

@@ -7,7 +7,6 @@ ghost use Rattle.spec_patch.specs.Read.{read_set};
 ghost use Rattle.spec_conversion.specs.Conversion.{other_edition, conversion_number, convert};
 ghost use Rattle.bytes_wire.specs.Write.{overwrite};
 ghost use Rattle.projection_patch.specs.Meaning.{edition_of};
-ghost use Rattle.patch_converter.specs.declared.ConversionAnswer.TheVariants.{Converted};
 ghost use Rattle.patch_converter.specs.Answers.{conversion_refusal_of, unread_to, conversion_answer, conversion_output};
 
 use crate::kinds::has_every_kind;
@@ -18,7 +17,7 @@ use projection_patch::read_values::ProjectionPatchReadFault;
 
 mod kinds;
 
-#[derive(Drop)]
+#[derive(Clone, Copy)]
 pub enum ConversionRefusal {
     OverCapacity,
     Malformed,
@@ -28,6 +27,7 @@ pub enum ConversionRefusal {
 
 impl ConversionRefusal {
     // Reading's number, 18 for a score that the other edition does not have, 14 for the output.
+    #[tactic(auto, unfolding(spec_conversion::specs::Conversion::conversion_number))]
     pub fn number(self) -> u64
         ensures { result ≡ conversion_number (conversion_refusal_of self) }
     {
@@ -40,13 +40,6 @@ impl ConversionRefusal {
     }
 }
 
-// Converted gives the length, which is the set's.
-#[derive(Drop)]
-pub enum ConversionAnswer {
-    Converted(usize),
-    Refused(ConversionRefusal),
-}
-
 fn other_edition(edition: ProjectionPatchEdition) -> ProjectionPatchEdition
     ensures { edition_of result ≡ other_edition (edition_of edition) }
 {
@@ -56,12 +49,15 @@ fn other_edition(edition: ProjectionPatchEdition) -> ProjectionPatchEdition
     }
 }
 
-fn unread(fault: ProjectionPatchReadFault) -> ConversionRefusal
-    ensures { result ≡ unread_to fault }
-{
-    match fault {
-        ProjectionPatchReadFault::Malformed => ConversionRefusal::Malformed,
-        ProjectionPatchReadFault::OverCapacity => ConversionRefusal::OverCapacity,
+impl From<ProjectionPatchReadFault> for ConversionRefusal {
+    ghost from_gives = { λ fault refusal. refusal ≡ unread_to fault };
+
+    #[tactic(auto, unfolding(spec_conversion::specs::Conversion::unread))]
+    fn from(fault: ProjectionPatchReadFault) -> ConversionRefusal {
+        match fault {
+            ProjectionPatchReadFault::Malformed => ConversionRefusal::Malformed,
+            ProjectionPatchReadFault::OverCapacity => ConversionRefusal::OverCapacity,
+        }
     }
 }
 
@@ -78,26 +74,26 @@ fn store_with_letter(set: &[u8], to: ProjectionPatchEdition, out: &mut [u8])
 // Converts a set of an edition into the other, from the start of the output on: reading's 12 and 10, then 18 for a score on the way to an
 // edition without scores, then 14. A refusal leaves every byte of the output as it was, and what is behind the set stays. What was written is
 // read in the other edition as the set is read in its own.
-pub fn convert(set: &[u8], from: ProjectionPatchEdition, out: &mut [u8]) -> ConversionAnswer
+pub fn convert(set: &[u8], from: ProjectionPatchEdition, out: &mut [u8]) -> Result<usize, ConversionRefusal>
     ensures value { result ≡ conversion_answer (convert (edition_of from) set.now (length out.old)) }
     ensures out_after { out.new ≡ conversion_output out.old (convert (edition_of from) set.now (length out.old)) }
-    ensures by_index { (n : ℕ) → result ≡ Converted n → read_set (other_edition (edition_of from)) (take n out.new) ≡ read_set (edition_of from) set.now }
+    ensures by_index { (n : ℕ) → result ≡ Ok n → read_set (other_edition (edition_of from)) (take n out.new) ≡ read_set (edition_of from) set.now }
 {
     match patch_walk::read_set(set, from) {
-        SetRead::Refused(fault) => ConversionAnswer::Refused(unread(fault)),
+        SetRead::Refused(fault) => Err(ConversionRefusal::from(fault)),
         SetRead::Read {
             patch_count: _,
             operation_count: _,
         } => {
             let to = other_edition(from);
             if !has_every_kind(set, from, to) {
-                return ConversionAnswer::Refused(ConversionRefusal::KindMissing);
+                return Err(ConversionRefusal::KindMissing);
             }
             if out.len() < set.len() {
-                return ConversionAnswer::Refused(ConversionRefusal::OutputTooShort);
+                return Err(ConversionRefusal::OutputTooShort);
             }
             store_with_letter(set, to, out);
-            ConversionAnswer::Converted(set.len())
+            Ok(set.len())
         }
     }
 }

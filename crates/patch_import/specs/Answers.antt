@@ -1,10 +1,8 @@
 -- What the call that brings in a list answers, and what it leaves of the output.
-use Rattle.std.specs.Prelude.{ℕ, List, ◌++◌, length, drop}
+use Rattle.std.specs.Prelude.{ℕ, List, ◌++◌, length, drop, Result, Ok, Err}
 use Rattle.spec_import.specs.Import as model
 use Rattle.patch_import.specs.declared.answer.ImportRefusal.{ImportRefusal}
 use Rattle.patch_import.specs.declared.answer.ImportRefusal.TheVariants.{OtherForm, OverCapacity, PatchInvalid, OutputTooShort}
-use Rattle.patch_import.specs.declared.answer.ImportAnswer.{ImportAnswer}
-use Rattle.patch_import.specs.declared.answer.ImportAnswer.TheVariants.{Imported, Refused}
 
 abbrev pub import_refusal_of : ImportRefusal → model.ImportRefusal
 import_refusal_of OtherForm = model.other_form
@@ -19,9 +17,9 @@ import_refusal_to model.patch_invalid = PatchInvalid
 import_refusal_to model.output_too_short = OutputTooShort
 
 -- the length
-abbrev pub import_answer : model.Imported → ImportAnswer
-import_answer (model.imported bs) = Imported (length bs)
-import_answer (model.refused n) = Refused (import_refusal_to n)
+abbrev pub import_answer : model.Imported → Result ℕ ImportRefusal
+import_answer (model.imported bs) = Ok (length bs)
+import_answer (model.refused n) = Err (import_refusal_to n)
 
 -- the bytes, and the rest of the output as it was
 abbrev pub import_output : List ℕ → model.Imported → List ℕ

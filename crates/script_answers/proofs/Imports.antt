@@ -4,7 +4,7 @@ use mathlib.Core.Path.{◌≡◌, refl, ap, ◌∙◌}
 use mathlib.Core.List.{List, [], ◌∷◌}
 use native.Mathlib.Omega.{arith}
 use lib.ListN.{length, drop}
-use Rattle.std.specs.Prelude.{Option}
+use Rattle.std.specs.Prelude.{Option, Result, Ok, Err}
 use Rattle.spec_import.specs.Import as model
 use Rattle.spec_import.specs.Import.{import_number}
 use Rattle.spec_decimal.specs.Decimal.{decimal}
@@ -12,14 +12,12 @@ use Rattle.spec_listing.specs.Listing.{fields}
 use Rattle.spec_replay.specs.Answers.{import_line}
 use Rattle.patch_import.specs.Answers.{import_refusal_of, import_refusal_to}
 use Rattle.patch_import.specs.declared.answer.ImportRefusal.{ImportRefusal}
-use Rattle.patch_import.specs.declared.answer.ImportAnswer.{ImportAnswer}
-use Rattle.patch_import.specs.declared.answer.ImportAnswer.TheVariants.{Imported, Refused}
 use Rattle.bytes_printer.specs.Prints.{Prints}
 use Rattle.script_answers.specs.ImportOf.{ImportOf}
 use Rattle.script_answers.specs.SetPrints.{PrintsSet}
 
 -- the set stands in the output from its start on
-pub imported_line : (c : model.Imported) (answer : ImportAnswer) (written : List ℕ) → ImportOf c answer written → (n : ℕ) → answer ≡ Imported n → {out after : List ℕ} {at r : Option ℕ}
+pub imported_line : (c : model.Imported) (answer : Result ℕ ImportRefusal) (written : List ℕ) → ImportOf c answer written → (n : ℕ) → answer ≡ Ok n → {out after : List ℕ} {at r : Option ℕ}
     → PrintsSet 73 n written out at after r → Prints out at (import_line c) after r
 unfolding import_line
 imported_line (model.imported bs) answer written h n is prints = prints bs (drop (length bs) h.lent) (cc (is, h.answered)) h.written
@@ -31,7 +29,7 @@ refusal_back model.over_capacity = refl
 refusal_back model.patch_invalid = refl
 refusal_back model.output_too_short = refl
 
-pub import_refused : (c : model.Imported) (answer : ImportAnswer) (written : List ℕ) → ImportOf c answer written → (f : ImportRefusal) → answer ≡ Refused f
+pub import_refused : (c : model.Imported) (answer : Result ℕ ImportRefusal) (written : List ℕ) → ImportOf c answer written → (f : ImportRefusal) → answer ≡ Err f
     → 73 ∷ fields (decimal (import_number (import_refusal_of f)) ∷ []) ≡ import_line c
 unfolding import_line
 import_refused (model.imported bs) answer written h f is = absurd (let z : ◌≡◌ {A = ℕ} 0 1 = cc (is, h.answered) in omega arith)

@@ -6,7 +6,7 @@ ghost use Rattle.script_answers.specs.ConversionOf.{ConversionOf};
 ghost use Rattle.script_answers.specs.SetPrints.{PrintsSet};
 
 use bytes_hex::printing;
-use patch_converter::ConversionAnswer;
+use patch_converter::ConversionRefusal;
 
 // The letter of the call, 0, and in hex the set that stands at the start of what was written. What is cut short is not printed.
 pub(crate) fn print_set(
@@ -31,14 +31,14 @@ pub(crate) fn print_set(
 pub fn print_conversion(
     out: &mut [u8],
     at: Option<usize>,
-    answer: ConversionAnswer,
+    answer: Result<usize, ConversionRefusal>,
     written: &[u8],
 ) -> Option<usize>
     ensures { (c : model.Converted) → ConversionOf c answer written.now → Prints out.old at (conversion_line c) out.new result }
 {
     match answer {
-        ConversionAnswer::Converted(len) => print_set(out, at, 84, written, len),
-        ConversionAnswer::Refused(refusal) => {
+        Ok(len) => print_set(out, at, 84, written, len),
+        Err(refusal) => {
             listing_lines::print_number_line(out, at, 84, refusal.number())
         }
     }

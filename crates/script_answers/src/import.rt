@@ -5,15 +5,15 @@ ghost use Rattle.bytes_printer.specs.Prints.{Prints};
 ghost use Rattle.script_answers.specs.ImportOf.{ImportOf};
 
 use crate::conversion;
-use patch_import::answer::ImportAnswer;
+use patch_import::answer::ImportRefusal;
 
 // What bringing in a list answered and wrote.
-pub fn print_import(out: &mut [u8], at: Option<usize>, answer: ImportAnswer, written: &[u8]) -> Option<usize>
+pub fn print_import(out: &mut [u8], at: Option<usize>, answer: Result<usize, ImportRefusal>, written: &[u8]) -> Option<usize>
     ensures { (c : model.Imported) → ImportOf c answer written.now → Prints out.old at (import_line c) out.new result }
 {
     match answer {
-        ImportAnswer::Imported(len) => conversion::print_set(out, at, 73, written, len),
-        ImportAnswer::Refused(refusal) => {
+        Ok(len) => conversion::print_set(out, at, 73, written, len),
+        Err(refusal) => {
             listing_lines::print_number_line(out, at, 73, refusal.number())
         }
     }

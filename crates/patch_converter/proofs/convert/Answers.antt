@@ -17,8 +17,8 @@ use Rattle.bytes_wire.specs.Write.{overwrite}
 use Rattle.projection_patch.specs.Meaning.{edition_of}
 use Rattle.projection_patch.specs.ReadAnswers.{fault_of}
 use Rattle.patch_part_writer.proofs.Flags.{fails, not_false_holds}
-use Rattle.patch_converter.specs.declared.ConversionAnswer.{ConversionAnswer}
-use Rattle.patch_converter.specs.declared.ConversionAnswer.TheVariants.{Converted, Refused}
+use Rattle.std.specs.Prelude.{Result, Ok, Err}
+use Rattle.patch_converter.specs.declared.ConversionRefusal.{ConversionRefusal}
 use Rattle.patch_converter.specs.Answers.{conversion_answer, conversion_output}
 use Rattle.patch_converter.specs.AnswersLaws.{Readable, set_readable, set_not_read, is_unread, is_missing, is_short, is_converted, letter_length, ConversionLeft, left_unconverted, left_converted, converted_read}
 use mathlib.Core.Path.{ap}
@@ -39,8 +39,8 @@ all_bytes : (k : After-read_set) → Bytes (set k)
 all_bytes k = bytes_of (set k) (λ j. (k.type_inv.set j).fits)
 
 -- with what both clauses say of an answer and an output, what was written is read back
-also-read : (k : After-read_set) (r : ConversionAnswer) (o : List ℕ) → let w = convert (from k) (set k) (length (out k)) in
-    ConversionLeft (out k) w r o → (r ≡ conversion_answer w) × ((o ≡ conversion_output (out k) w) × ((n : ℕ) → r ≡ Converted n → read_set (other_edition (from k)) (take n o) ≡ read_set (from k) (set k)))
+also-read : (k : After-read_set) (r : Result ℕ ConversionRefusal) (o : List ℕ) → let w = convert (from k) (set k) (length (out k)) in
+    ConversionLeft (out k) w r o → (r ≡ conversion_answer w) × ((o ≡ conversion_output (out k) w) × ((n : ℕ) → r ≡ Ok n → read_set (other_edition (from k)) (take n o) ≡ read_set (from k) (set k)))
 also-read k r o h = (h.0, (h.1, converted_read (from k) (set k) (all_bytes k) (out k) r o h))
 
 listed : (k : After-has_every_kind) → Readable ((edition_of k.args.from)) ((k.args.set.now))
@@ -71,7 +71,7 @@ pub returns-in-Refused : goal.returns-in-Refused
 returns-in-Refused c =
     let all = let told = is_unread (from (goal.at.returns-in-Refused c).After-read_set) (set (goal.at.returns-in-Refused c).After-read_set) (length (out (goal.at.returns-in-Refused c).After-read_set)) c.in-Refused.fault (set_not_read (from (goal.at.returns-in-Refused c).After-read_set) (set (goal.at.returns-in-Refused c).After-read_set) c.in-Refused.fault (sym c.read_set.ensures ∙ c.in-Refused.is)) in
     let left = left_unconverted (out (goal.at.returns-in-Refused c).After-read_set) (model.unread (fault_of c.in-Refused.fault)) told in
-    also-read (goal.at.returns-in-Refused c).After-read_set _ _ (ap Refused c.unread.ensures ∙ left.0, left.1) in record { value = all.0; out_after = all.1.0; by_index = all.1.1 }
+    also-read (goal.at.returns-in-Refused c).After-read_set _ _ (ap Err c.from.ensures ∙ left.0, left.1) in record { value = all.0; out_after = all.1.0; by_index = all.1.1 }
 
 pub returns-else-out-set : goal.returns-else-out-set
 returns-else-out-set c =

@@ -9,11 +9,11 @@ use Rattle.script_answers.proofs.Conversions.{converted_line, conversion_refused
 use borrow.Author.Rules.{rules}
 use Rattle.script_answers.proofs.conversion.print_conversion.Goals as goal
 
-pub returns-in-Converted : goal.returns-in-Converted
-returns-in-Converted c =
-    λ conversion h. converted_line conversion c.args.answer c.args.written.now h _ c.in-Converted.is c.print_set.ensures
+pub returns-in-Ok : goal.returns-in-Ok
+returns-in-Ok c =
+    λ conversion h. converted_line conversion c.args.answer c.args.written.now h _ c.in-Ok.is c.print_set.ensures
 
-pub returns-in-Refused : goal.returns-in-Refused
-returns-in-Refused c =
+pub returns-in-Err : goal.returns-in-Err
+returns-in-Err c =
     let number = ap (λ (n : ℕ). 84 ∷ fields (decimal n ∷ [])) c.number.ensures in
-    λ conversion h. prints_same (number ∙ conversion_refused conversion c.args.answer c.args.written.now h _ c.in-Refused.is) c.print_number_line.ensures
+    λ conversion h. prints_same (number ∙ conversion_refused conversion c.args.answer c.args.written.now h _ c.in-Err.is) c.print_number_line.ensures

@@ -9,11 +9,11 @@ use Rattle.script_answers.proofs.Imports.{imported_line, import_refused}
 use borrow.Author.Rules.{rules}
 use Rattle.script_answers.proofs.import.print_import.Goals as goal
 
-pub returns-in-Imported : goal.returns-in-Imported
-returns-in-Imported c =
-    λ imported h. imported_line imported c.args.answer c.args.written.now h _ c.in-Imported.is c.print_set.ensures
+pub returns-in-Ok : goal.returns-in-Ok
+returns-in-Ok c =
+    λ imported h. imported_line imported c.args.answer c.args.written.now h _ c.in-Ok.is c.print_set.ensures
 
-pub returns-in-Refused : goal.returns-in-Refused
-returns-in-Refused c =
+pub returns-in-Err : goal.returns-in-Err
+returns-in-Err c =
     let number = ap (λ (n : ℕ). 73 ∷ fields (decimal n ∷ [])) c.number.ensures in
-    λ imported h. prints_same (number ∙ import_refused imported c.args.answer c.args.written.now h _ c.in-Refused.is) c.print_number_line.ensures
+    λ imported h. prints_same (number ∙ import_refused imported c.args.answer c.args.written.now h _ c.in-Err.is) c.print_number_line.ensures
