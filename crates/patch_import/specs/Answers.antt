@@ -1,6 +1,8 @@
 -- What the call that brings in a list answers, and what it leaves of the output.
 use Rattle.std.specs.Prelude.{ℕ, List, ◌++◌, length, drop, Result, Ok, Err}
 use Rattle.spec_import.specs.Import as model
+use Rattle.patch_terms.specs.declared.TermRefusal.{TermRefusal}
+use Rattle.patch_terms.specs.declared.TermRefusal.TheVariants as reason
 use Rattle.patch_import.specs.declared.answer.ImportRefusal.{ImportRefusal}
 use Rattle.patch_import.specs.declared.answer.ImportRefusal.TheVariants.{OtherForm, OverCapacity, PatchInvalid, OutputTooShort}
 
@@ -15,6 +17,11 @@ import_refusal_to model.other_form = OtherForm
 import_refusal_to model.over_capacity = OverCapacity
 import_refusal_to model.patch_invalid = PatchInvalid
 import_refusal_to model.output_too_short = OutputTooShort
+
+-- why a line holds no term
+abbrev pub of_term : TermRefusal → ImportRefusal
+of_term reason.OtherForm = OtherForm
+of_term reason.OverCapacity = OverCapacity
 
 -- the length
 abbrev pub import_answer : model.Imported → Result ℕ ImportRefusal

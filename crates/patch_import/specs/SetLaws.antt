@@ -1,5 +1,5 @@
 -- The set of one patch: its bytes in their parts, what is found of it, and what is told of it by both.
-use Rattle.std.specs.Prelude.{ℕ, ◌+◌, ◌≤◌, Bool, ◌||◌, if◌then◌else◌}
+use Rattle.std.specs.Prelude.{ℕ, ◌+◌, ◌≤◌, Bool, ◌||◌, Result, Ok, Err, if◌then◌else◌}
 use Rattle.std.proofs.Math.Path.{◌≡◌, refl, sym, ap}
 use Rattle.std.proofs.Common.{◌∙◌, arith, length-append}
 use Rattle.std.proofs.Math.Bool.{true, false, not}
@@ -27,8 +27,6 @@ use Rattle.check_quick.specs.Quick.{found_from, head_found, patch_found, previou
 use Rattle.check_quick.specs.QuickLaws.{or_false, quick_found}
 use Rattle.patch_import.specs.declared.answer.ImportRefusal.{ImportRefusal}
 use Rattle.patch_import.specs.declared.answer.ImportRefusal.TheVariants as refusal
-use Rattle.patch_import.specs.declared.judgement.PatchJudgement.{PatchJudgement}
-use Rattle.patch_import.specs.declared.judgement.PatchJudgement.TheVariants.{Fits, Refused}
 use Rattle.patch_import.specs.Answers.{import_refusal_of}
 use Rattle.patch_import.specs.Survey.{insert_bytes}
 use Rattle.patch_import.specs.Judgement.{judged_patch}
@@ -83,28 +81,28 @@ module _ (ed : Edition) (collection : ℕ) (patch : ProjectionPatch) (ts : List 
         twice false = refl
 
     -- what is told stands for what bringing in gives
-    abbrev gives : PatchJudgement → model.Imported
-    gives (Fits n) = model.imported bytes
-    gives (Refused r) = model.refused (import_refusal_of r)
+    abbrev gives : Result ℕ ImportRefusal → model.Imported
+    gives (Ok n) = model.imported bytes
+    gives (Err r) = model.refused (import_refusal_of r)
 
     judged : import_patch ed (patch_of collection e ts) room ≡ gives (judged_patch size found room)
     unfolding import_patch judged_patch
     judged = rw (long, clean) (go (leb size set_bytes) found (leb size room))
       where
         go : (a f b : Bool) → (if a then (if not f then (if b then model.imported bytes else model.refused model.output_too_short) else model.refused model.patch_invalid) else model.refused model.over_capacity)
-            ≡ gives (if a then (if f then Refused refusal.PatchInvalid else (if b then Fits size else Refused refusal.OutputTooShort)) else Refused refusal.OverCapacity)
+            ≡ gives (if a then (if f then Err refusal.PatchInvalid else (if b then Ok size else Err refusal.OutputTooShort)) else Err refusal.OverCapacity)
         go true true b = refl
         go true false true = refl
         go true false false = refl
         go false f b = refl
 
-    pub judged_refused : (r : ImportRefusal) → judged_patch size found room ≡ Refused r → import_patch ed (patch_of collection e ts) room ≡ model.refused (import_refusal_of r)
+    pub judged_refused : (r : ImportRefusal) → judged_patch size found room ≡ Err r → import_patch ed (patch_of collection e ts) room ≡ model.refused (import_refusal_of r)
     judged_refused r h = judged ∙ ap gives h
 
-    pub judged_imports : (n : ℕ) → judged_patch size found room ≡ Fits n → import_patch ed (patch_of collection e ts) room ≡ model.imported bytes
+    pub judged_imports : (n : ℕ) → judged_patch size found room ≡ Ok n → import_patch ed (patch_of collection e ts) room ≡ model.imported bytes
     judged_imports n h = judged ∙ ap gives h
 
-    pub fits_told : (n : ℕ) → judged_patch size found room ≡ Fits n → (n ≡ length bytes) × (n ≤ room)
+    pub fits_told : (n : ℕ) → judged_patch size found room ≡ Ok n → (n ≡ length bytes) × (n ≤ room)
     unfolding judged_patch
     fits_told n e =
         test_cases (leb size set_bytes)
@@ -112,7 +110,7 @@ module _ (ed : Edition) (collection : ℕ) (patch : ProjectionPatch) (ts : List 
         by_found found (rw a at e))
         (λ a. absurd (let z : ◌≡◌ {A = ℕ} 0 1 = cc (rw a at e) in omega arith))
       where
-        by_found : (f : Bool) → (if f then Refused refusal.PatchInvalid else (if leb size room then Fits size else Refused refusal.OutputTooShort)) ≡ Fits n → (n ≡ length bytes) × (n ≤ room)
+        by_found : (f : Bool) → (if f then Err refusal.PatchInvalid else (if leb size room then Ok size else Err refusal.OutputTooShort)) ≡ Ok n → (n ≡ length bytes) × (n ≤ room)
         by_found true e = absurd (let z : ◌≡◌ {A = ℕ} 0 1 = cc in omega arith)
         by_found false e =
             test_cases (leb size room)

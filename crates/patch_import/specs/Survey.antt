@@ -1,5 +1,5 @@
 -- What the pass over the lines tells: how many there are, the bytes of their operations, and whether a key occurs twice.
-use Rattle.std.specs.Prelude.{ℕ, ◌+◌, ◌*◌, ◌≤◌, ◌≡◌, Bool, false, ◌||◌, length}
+use Rattle.std.specs.Prelude.{ℕ, ◌+◌, ◌*◌, ◌≤◌, ◌≡◌, Bool, false, ◌||◌, length, Result, Ok, Err}
 use mathlib.Core.List.{List, [], map, flat_map}
 use Rattle.spec_patch.specs.Sizes.{patch_operations, text_bytes}
 use Rattle.spec_patch.specs.Encode.{encode_operation}
@@ -11,8 +11,8 @@ use Rattle.projection_patch.specs.declared.patch.ProjectionPatchOperation.{Proje
 use Rattle.projection_patch.specs.declared.patch.ProjectionPatchOperation.TheVariants.{CollectionInsert}
 use Rattle.check_quick.specs.Quick.{found_from}
 use Rattle.patch_import.specs.Answers.{import_refusal_to}
+use Rattle.patch_import.specs.declared.answer.ImportRefusal.{ImportRefusal}
 use Rattle.patch_import.specs.declared.survey.LineSurvey.{LineSurvey}
-use Rattle.patch_import.specs.declared.survey.LineSurvey.TheVariants.{Within, Refused}
 
 -- an insert of the text at a place of the list, before no neighbour
 abbrev pub insertion_of : (collection k start len : ℕ) → ProjectionPatchOperation
@@ -34,13 +34,17 @@ most_bytes = term_bytes text_bytes * patch_operations
 unfoldable pub insert_bytes : ℕ → List Term → List ℕ
 insert_bytes collection ts = flat_map encode_operation (map (insert_of collection) ts)
 
--- what lines tell behind n others, whose operations took so many bytes, repeated a key or none, and left these targets
-abbrev pub survey_from : ℕ → ℕ → ℕ → Bool → List ℕ → Terms → LineSurvey
-survey_from collection n bytes repeated targets (terms ts) =
-    Within (n + length ts) (bytes + length (insert_bytes collection ts)) (repeated || found_from targets (map (insert_of collection) ts))
-survey_from collection n bytes repeated targets (faulty r) = Refused (import_refusal_to r)
+-- so many lines, so many bytes, and whether a key occurs twice
+abbrev pub lines_within : ℕ → ℕ → Bool → Result LineSurvey ImportRefusal
+lines_within n bytes repeated = Ok (record { count = n; bytes = bytes; repeated = repeated })
 
-abbrev pub survey_of : ℕ → Terms → LineSurvey
+-- what lines tell behind n others, whose operations took so many bytes, repeated a key or none, and left these targets
+abbrev pub survey_from : ℕ → ℕ → ℕ → Bool → List ℕ → Terms → Result LineSurvey ImportRefusal
+survey_from collection n bytes repeated targets (terms ts) =
+    lines_within (n + length ts) (bytes + length (insert_bytes collection ts)) (repeated || found_from targets (map (insert_of collection) ts))
+survey_from collection n bytes repeated targets (faulty r) = Err (import_refusal_to r)
+
+abbrev pub survey_of : ℕ → Terms → Result LineSurvey ImportRefusal
 survey_of collection = survey_from collection 0 0 false []
 
 -- ---- the pass that writes

@@ -1,5 +1,5 @@
 -- One line more: what is left, after what was told of the lines before, tells what the whole does.
-use Rattle.std.specs.Prelude.{ℕ, suc, ◌+◌, ◌*◌, ◌≤◌, ◌<◌, ◌≡◌, Bool, ◌||◌, length, drop}
+use Rattle.std.specs.Prelude.{ℕ, suc, ◌+◌, ◌*◌, ◌≤◌, ◌<◌, ◌≡◌, Bool, ◌||◌, length, drop, Result, Ok, Err}
 use Rattle.std.proofs.Math.Path.{refl, sym, ap}
 use Rattle.std.proofs.Common.{◌∙◌, arith}
 use mathlib.Core.List.{List, [], ◌∷◌, ◌++◌, map, flat_map}
@@ -25,16 +25,17 @@ use Rattle.check_targets.specs.Targets.{numbers_of, target_numbers, target_seen}
 use Rattle.check_quick.specs.Quick.{operation_found, found_from}
 use Rattle.check_quick.specs.QuickLaws.{or_assoc, or_false}
 use Rattle.patch_terms.specs.Answers.{line_answer}
-use Rattle.patch_terms.specs.declared.LineRead.TheVariants as Line-read
+use Rattle.patch_terms.specs.declared.TermRefusal.{TermRefusal}
+use Rattle.patch_terms.specs.declared.TermRefusal.TheVariants as reason
 use Rattle.patch_terms.specs.LinesLaws.{term_of, TermAt, reads_term, reads_full, reads_other, reads_over, reads_end}
 use Rattle.patch_import.specs.declared.answer.ImportRefusal.{ImportRefusal}
 use Rattle.patch_import.specs.declared.answer.ImportRefusal.TheVariants.{OtherForm, OverCapacity}
-use Rattle.patch_import.specs.declared.survey.LineSurvey.TheVariants.{Within, Refused}
-use Rattle.patch_import.specs.Answers.{import_refusal_of, import_refusal_to}
-use Rattle.patch_import.specs.Survey.{insertion_of, term_bytes, insert_bytes, survey_from, survey_of, held_in}
+use Rattle.patch_import.specs.declared.survey.LineSurvey.{LineSurvey}
+use Rattle.patch_import.specs.Answers.{import_refusal_of, import_refusal_to, of_term}
+use Rattle.patch_import.specs.Survey.{insertion_of, term_bytes, insert_bytes, lines_within, survey_from, survey_of, held_in}
 
-same_within : {a b c d : ℕ} {p q : Bool} → a ≡ b → c ≡ d → p ≡ q → Within a c p ≡ Within b d q
-same_within e f g = λ i. Within (e i) (f i) (g i)
+same_within : {a b c d : ℕ} {p q : Bool} → a ≡ b → c ≡ d → p ≡ q → lines_within a c p ≡ lines_within b d q
+same_within e f g = λ i. lines_within (e i) (f i) (g i)
 
 -- an insert before no neighbour does not name itself
 not_self : (collection : ℕ) (t : Term) (seen : Bool) → (seen || before_self_lem (insert_of collection t)) ≡ seen
@@ -94,24 +95,26 @@ module _ (collection : ℕ) (list : List ℕ) (at k start len next : ℕ) (t : T
         ∙ ap (survey_from collection n bytes repeated targets) (sym (reads_term list at n more k start len next t small))
 
   -- the line behind a full patch
-  pub survey_full : (n bytes : ℕ) (repeated : Bool) (targets : List ℕ) → at < length list → patch_operations ≤ n → Refused OverCapacity ≡ survey_from collection n bytes repeated targets (read_terms n (lines (drop at list)))
+  pub survey_full : (n bytes : ℕ) (repeated : Bool) (targets : List ℕ) → at < length list → patch_operations ≤ n → Err OverCapacity ≡ survey_from collection n bytes repeated targets (read_terms n (lines (drop at list)))
   survey_full n bytes repeated targets more full = sym (ap (survey_from collection n bytes repeated targets) (reads_full list at n more k start len next t full))
 
 module _ (collection : ℕ) (list : List ℕ) (at n bytes : ℕ) (repeated : Bool) (targets : List ℕ) where
-  pub survey_other : at < length list → line_answer at (drop at list) ≡ Line-read.OtherForm → Refused OtherForm ≡ survey_from collection n bytes repeated targets (read_terms n (lines (drop at list)))
-  survey_other more e = sym (ap (survey_from collection n bytes repeated targets) (reads_other list at n more e))
+  -- a line that holds no term
+  pub survey_refused : at < length list → (r : TermRefusal) → line_answer at (drop at list) ≡ Err r → Err (of_term r) ≡ survey_from collection n bytes repeated targets (read_terms n (lines (drop at list)))
+  survey_refused more reason.OtherForm e = sym (ap (survey_from collection n bytes repeated targets) (reads_other list at n more e))
+  survey_refused more reason.OverCapacity e = sym (ap (survey_from collection n bytes repeated targets) (reads_over list at n more e))
 
-  pub survey_over : at < length list → line_answer at (drop at list) ≡ Line-read.OverCapacity → Refused OverCapacity ≡ survey_from collection n bytes repeated targets (read_terms n (lines (drop at list)))
-  survey_over more e = sym (ap (survey_from collection n bytes repeated targets) (reads_over list at n more e))
-
-  pub survey_end : length list ≤ at → Within n bytes repeated ≡ survey_from collection n bytes repeated targets (read_terms n (lines (drop at list)))
+  pub survey_end : length list ≤ at → lines_within n bytes repeated ≡ survey_from collection n bytes repeated targets (read_terms n (lines (drop at list)))
   unfolding insert_bytes flat_map found_from
   survey_end h = sym (ap (survey_from collection n bytes repeated targets) (reads_end list at n h) ∙ same_within (omega arith) (omega arith) (or_false repeated))
 
 -- ---- the survey taken apart
 
+survey_same : {a b : LineSurvey} → ◌≡◌ {A = Result LineSurvey ImportRefusal} (Ok a) (Ok b) → a ≡ b
+survey_same e = cc
+
 module _ (collection : ℕ) (x : Terms) where
-  pub survey_faulty : (r : ImportRefusal) → survey_of collection x ≡ Refused r → x ≡ faulty (import_refusal_of r)
+  pub survey_faulty : (r : ImportRefusal) → survey_of collection x ≡ Err r → x ≡ faulty (import_refusal_of r)
   survey_faulty r e = go x refl e
     where
       back : (m : model.ImportRefusal) → import_refusal_to m ≡ r → m ≡ import_refusal_of r
@@ -123,7 +126,7 @@ module _ (collection : ℕ) (x : Terms) where
           back_of model.patch_invalid = refl
           back_of model.output_too_short = refl
 
-      go : (y : Terms) → x ≡ y → survey_of collection y ≡ Refused r → x ≡ faulty (import_refusal_of r)
+      go : (y : Terms) → x ≡ y → survey_of collection y ≡ Err r → x ≡ faulty (import_refusal_of r)
       go (terms ts) is e = absurd (let z : ◌≡◌ {A = ℕ} 0 1 = cc in omega arith)
       go (faulty m) is e = let same : import_refusal_to m ≡ r = cc in is ∙ ap faulty (back m same)
 
@@ -133,15 +136,16 @@ module _ (collection : ℕ) (x : Terms) where
     pub sized : bytes ≡ length (insert_bytes collection (held_in x))
     pub told : repeated ≡ found_from [] (map (insert_of collection) (held_in x))
 
-  pub survey_held : (count bytes : ℕ) (repeated : Bool) → survey_of collection x ≡ Within count bytes repeated → Surveyed count bytes repeated
+  pub survey_held : (count bytes : ℕ) (repeated : Bool) → survey_of collection x ≡ lines_within count bytes repeated → Surveyed count bytes repeated
   survey_held count bytes repeated e = go x refl e
     where
-      go : (y : Terms) → x ≡ y → survey_of collection y ≡ Within count bytes repeated → Surveyed count bytes repeated
+      go : (y : Terms) → x ≡ y → survey_of collection y ≡ lines_within count bytes repeated → Surveyed count bytes repeated
       go (terms ts) is e =
           let same : held_in x ≡ ts = ap held_in is in
-          let counts : 0 + length ts ≡ count = cc in
-          let sizes : 0 + length (insert_bytes collection ts) ≡ bytes = cc in
-          let finds : found_from [] (map (insert_of collection) ts) ≡ repeated = cc in
+          let told = survey_same e in
+          let counts : 0 + length ts ≡ count = ap (λ (s : LineSurvey). s.count) told in
+          let sizes : 0 + length (insert_bytes collection ts) ≡ bytes = ap (λ (s : LineSurvey). s.bytes) told in
+          let finds : found_from [] (map (insert_of collection) ts) ≡ repeated = ap (λ (s : LineSurvey). s.repeated) told in
           record {
             held = is ∙ ap terms (sym same);
             counted = omega (arith, counts, ap length same);

@@ -3,7 +3,7 @@ use Prim.Native.Nat.{ℕ, suc, ◌+◌, ◌≤◌, ◌<◌}
 use Rattle.std.proofs.Math.Path.{◌≡◌, refl, sym, ap}
 use Rattle.std.proofs.Common.{◌∙◌, arith, ltb-true, ltb-false, length-append}
 use mathlib.Core.List.{List, [], ◌∷◌, ◌++◌, flat_map}
-use Rattle.std.specs.Prelude.{ltb, length, drop}
+use Rattle.std.specs.Prelude.{ltb, length, drop, Result, Ok, Err}
 use Rattle.spec_lists.proofs.ListLaws.{test_cases}
 use Rattle.spec_patch.specs.Sizes.{patch_operations}
 use Rattle.spec_patch.specs.Encode.{encode_operation}
@@ -14,9 +14,8 @@ use Rattle.bytes_wire.proofs.WriteLaws.{overwrite_append}
 use Rattle.patch_writer.proofs.Progress.{Next}
 use Rattle.patch_terms.specs.Places.{first_term_line}
 use Rattle.patch_terms.specs.Answers.{term_answer, line_to, line_answer, HoldsTerm}
-use Rattle.patch_terms.specs.declared.TermRead.{TermRead}
-use Rattle.patch_terms.specs.declared.TermRead.TheVariants as term-read
-use Rattle.patch_terms.specs.declared.LineRead.TheVariants as Line-read
+use Rattle.patch_terms.specs.declared.TermRefusal.{TermRefusal}
+use Rattle.patch_terms.specs.declared.TermRefusal.TheVariants as reason
 use Rattle.patch_terms.specs.LinesLaws.{term_of, TermAt, reads_term, reads_full, reads_other, reads_over, reads_end}
 use Rattle.patch_import.specs.Survey.{term_bytes, insert_bytes, held_of, Writable}
 use Rattle.patch_import.specs.SurveyLaws.{term_size}
@@ -51,20 +50,20 @@ three_written out a b x n long-a long-b room =
 
 module _ {list : List ℕ} {at : ℕ} {rest : List Term} (left : TermsLeft list at rest) where
   -- none is of another form or over its limits
-  pub left_other : {C : Type 0} → at < length list → line_answer at (drop at list) ≡ Line-read.OtherForm → C
+  left_other : {C : Type 0} → at < length list → line_answer at (drop at list) ≡ Err reason.OtherForm → C
   left_other more e = never other_form left.reads (reads_other list at left.done more e)
 
-  pub left_over : {C : Type 0} → at < length list → line_answer at (drop at list) ≡ Line-read.OverCapacity → C
+  left_over : {C : Type 0} → at < length list → line_answer at (drop at list) ≡ Err reason.OverCapacity → C
   left_over more e = never over_capacity left.reads (reads_over list at left.done more e)
 
   -- so each holds a term
   pub left_holds : at < length list → HoldsTerm (drop at list)
   left_holds more = go (term_answer (first_term_line (drop at list))) refl
     where
-      go : (r : TermRead) → term_answer (first_term_line (drop at list)) ≡ r → HoldsTerm (drop at list)
-      go (term-read.Term k start) e = record { key = k; start = start; is = e }
-      go term-read.OtherForm e = left_other more (ap (line_to at (at + length (first_term_line (drop at list)))) e)
-      go term-read.OverCapacity e = left_over more (ap (line_to at (at + length (first_term_line (drop at list)))) e)
+      go : (r : Result (ℕ × ℕ) TermRefusal) → term_answer (first_term_line (drop at list)) ≡ r → HoldsTerm (drop at list)
+      go (Ok (k , start)) e = record { key = k; start = start; is = e }
+      go (Err reason.OtherForm) e = left_other more (ap (line_to at (at + length (first_term_line (drop at list)))) e)
+      go (Err reason.OverCapacity) e = left_over more (ap (line_to at (at + length (first_term_line (drop at list)))) e)
 
   -- none is left behind the end
   pub left_end : length list ≤ at → rest ≡ []

@@ -1,9 +1,11 @@
-// What bringing in a term list answers.
+// Why a term list is not brought in.
 ghost use Rattle.std.specs.Prelude.{◌≡◌};
 ghost use Rattle.spec_import.specs.Import.{import_number};
-ghost use Rattle.patch_import.specs.Answers.{import_refusal_of};
+ghost use Rattle.patch_import.specs.Answers.{import_refusal_of, of_term};
 
-#[derive(Drop)]
+use patch_terms::TermRefusal;
+
+#[derive(Clone, Copy)]
 pub enum ImportRefusal {
     OtherForm,
     OverCapacity,
@@ -13,6 +15,7 @@ pub enum ImportRefusal {
 
 impl ImportRefusal {
     // 15 for a line of another form; 12, 11 and 14 as in other calls.
+    #[tactic(auto, unfolding(spec_import::specs::Import::import_number))]
     pub fn number(self) -> u64
         ensures { result ≡ import_number (import_refusal_of self) }
     {
@@ -25,9 +28,13 @@ impl ImportRefusal {
     }
 }
 
-// Imported gives the length of the set.
-#[derive(Drop)]
-pub enum ImportAnswer {
-    Imported(usize),
-    Refused(ImportRefusal),
+impl From<TermRefusal> for ImportRefusal {
+    ghost from_gives = { λ refusal told. told ≡ of_term refusal };
+
+    fn from(refusal: TermRefusal) -> ImportRefusal {
+        match refusal {
+            TermRefusal::OtherForm => ImportRefusal::OtherForm,
+            TermRefusal::OverCapacity => ImportRefusal::OverCapacity,
+        }
+    }
 }

@@ -11,14 +11,8 @@ use check_findings::{envelope_checks, found};
 use patch_part_writer::extent::{HEADING_BYTES, head_size};
 use projection_patch::patch::{ProjectionPatch, ProjectionPatchSet};
 
-// Fits gives the bytes of the set.
-#[derive(Drop)]
-pub enum PatchJudgement {
-    Fits(usize),
-    Refused(ImportRefusal),
-}
-
 // Whether the patch checks find anything: a repeated key, no lines, or what the caller's numbers bring.
+#[tactic(auto, unfolding(check_quick::specs::Quick::head_found))]
 fn is_found(patch: ProjectionPatch, repeated: bool) -> bool
     ensures { result ≡ (head_found (envelope_of patch.envelope) patch.operation_count || repeated) }
 {
@@ -31,25 +25,25 @@ fn is_found(patch: ProjectionPatch, repeated: bool) -> bool
     found::envelope_found(envelope_checks::envelope_findings(patch.envelope))
 }
 
-// 12 for the bytes of the set, then 11, then 14.
+// The bytes of the set: 12 for them, then 11, then 14.
 pub fn judge_patch(
     patch: ProjectionPatch,
     bytes: usize,
     repeated: bool,
     room: usize,
-) -> PatchJudgement
+) -> Result<usize, ImportRefusal>
     requires { bytes ≤ most_bytes }
     ensures { result ≡ judged_patch (35 + (head_size patch + bytes)) (head_found (envelope_of patch.envelope) patch.operation_count || repeated) room }
 {
     let size = HEADING_BYTES + (head_size(patch) + bytes);
     if ProjectionPatchSet::BYTES < size {
-        return PatchJudgement::Refused(ImportRefusal::OverCapacity);
+        return Err(ImportRefusal::OverCapacity);
     }
     if is_found(patch, repeated) {
-        return PatchJudgement::Refused(ImportRefusal::PatchInvalid);
+        return Err(ImportRefusal::PatchInvalid);
     }
     if room < size {
-        return PatchJudgement::Refused(ImportRefusal::OutputTooShort);
+        return Err(ImportRefusal::OutputTooShort);
     }
-    PatchJudgement::Fits(size)
+    Ok(size)
 }

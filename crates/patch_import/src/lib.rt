@@ -6,12 +6,9 @@ ghost use Rattle.std.proofs.Math.Option.{some};
 ghost use Rattle.spec_patch.specs.Read.{patches, read_set};
 ghost use Rattle.spec_import.specs.Import.{Term, lines, read_term, patch_of, import_terms};
 ghost use Rattle.projection_patch.specs.Meaning.{edition_of, envelope_of};
-ghost use Rattle.patch_import.specs.declared.answer.ImportAnswer.TheVariants.{Imported};
 ghost use Rattle.patch_import.specs.Answers.{import_answer, import_output};
 
-use crate::answer::ImportAnswer;
-use crate::judgement::PatchJudgement;
-use crate::survey::LineSurvey;
+use crate::answer::ImportRefusal;
 use projection_patch::patch::{ProjectionPatch, ProjectionPatchEdition, ProjectionPatchEnvelope};
 
 pub mod answer;
@@ -29,30 +26,18 @@ pub fn import_terms(
     collection: u64,
     envelope: ProjectionPatchEnvelope,
     out: &mut [u8],
-) -> ImportAnswer
+) -> Result<usize, ImportRefusal>
     ensures value { result ≡ import_answer (import_terms (edition_of edition) collection (envelope_of envelope) list.now (length out.old)) }
     ensures out_after { out.new ≡ import_output out.old (import_terms (edition_of edition) collection (envelope_of envelope) list.now (length out.old)) }
-    ensures by_index { (n : ℕ) → result ≡ Imported n → (ts : List Term) × (map read_term (lines list.now) ≡ map some ts)
+    ensures by_index { (n : ℕ) → result ≡ Ok n → (ts : List Term) × (map read_term (lines list.now) ≡ map some ts)
         × (read_set (edition_of edition) (take n out.new) ≡ patches (patch_of collection (envelope_of envelope) ts ∷ [])) }
 {
-    match survey::survey_lines(list, collection) {
-        LineSurvey::Refused(refusal) => ImportAnswer::Refused(refusal),
-        LineSurvey::Within {
-            count,
-            bytes,
-            repeated,
-        } => {
-            let patch = ProjectionPatch {
-                envelope,
-                operation_count: count,
-            };
-            match judgement::judge_patch(patch, bytes, repeated, out.len()) {
-                PatchJudgement::Refused(refusal) => ImportAnswer::Refused(refusal),
-                PatchJudgement::Fits(size) => {
-                    writing::write_patch(list, edition, collection, patch, out);
-                    ImportAnswer::Imported(size)
-                }
-            }
-        }
-    }
+    let lines = survey::survey_lines(list, collection)?;
+    let patch = ProjectionPatch {
+        envelope,
+        operation_count: lines.count,
+    };
+    let size = judgement::judge_patch(patch, lines.bytes, lines.repeated, out.len())?;
+    writing::write_patch(list, edition, collection, patch, out);
+    Ok(size)
 }

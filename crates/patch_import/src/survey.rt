@@ -9,18 +9,14 @@ use crate::answer::ImportRefusal;
 use crate::insertion::insertion;
 use check_targets::MutationTarget;
 use patch_part_writer::extent::operation_size;
-use patch_terms::LineRead;
 use projection_patch::patch::ProjectionPatch;
 
 // How many lines there are, the bytes of their operations, and whether a key occurs twice.
-#[derive(Drop)]
-pub enum LineSurvey {
-    Within {
-        count: usize,
-        bytes: usize,
-        repeated: bool,
-    },
-    Refused(ImportRefusal),
+#[derive(Clone, Copy)]
+pub struct LineSurvey {
+    pub count: usize,
+    pub bytes: usize,
+    pub repeated: bool,
 }
 
 // Whether there was a repeat before, or the target is one; it is put behind the first used numbers, with its mark.
@@ -43,7 +39,12 @@ fn repeats(
 }
 
 // The survey, with room lent for the targets of the lines and their marks.
-fn survey_with(list: &[u8], collection: u64, targets: &mut [u64], marks: &mut [u8]) -> LineSurvey
+fn survey_with(
+    list: &[u8],
+    collection: u64,
+    targets: &mut [u64],
+    marks: &mut [u8],
+) -> Result<LineSurvey, ImportRefusal>
     requires { (length targets.old ≡ patch_numbers) × (length marks.old ≡ mark_places) }
     ensures { result ≡ survey_of collection (read_terms 0 (lines list.now)) }
 {
@@ -52,41 +53,27 @@ fn survey_with(list: &[u8], collection: u64, targets: &mut [u64], marks: &mut [u
     let mut bytes: usize = 0;
     let mut repeated = false;
     while at < list.len() {
-        match patch_terms::read_line(list, at) {
-            LineRead::Term {
-                key,
-                start,
-                len,
-                next,
-            } => {
-                if count == ProjectionPatch::OPERATIONS {
-                    return LineSurvey::Refused(ImportRefusal::OverCapacity);
-                }
-                let operation = insertion(collection, key, start, len);
-                let target = check_targets::mutation_target(operation);
-                let used = MutationTarget::NUMBERS * count;
-                repeated = repeats(repeated, targets, marks, used, target);
-                bytes += operation_size(operation);
-                count += 1;
-                at = next;
-            }
-            LineRead::OtherForm => {
-                return LineSurvey::Refused(ImportRefusal::OtherForm);
-            }
-            LineRead::OverCapacity => {
-                return LineSurvey::Refused(ImportRefusal::OverCapacity);
-            }
+        let line = patch_terms::read_line(list, at)?;
+        if count == ProjectionPatch::OPERATIONS {
+            return Err(ImportRefusal::OverCapacity);
         }
+        let operation = insertion(collection, line.key, line.start, line.len);
+        let target = check_targets::mutation_target(operation);
+        let used = MutationTarget::NUMBERS * count;
+        repeated = repeats(repeated, targets, marks, used, target);
+        bytes += operation_size(operation);
+        count += 1;
+        at = line.next;
     }
-    LineSurvey::Within {
+    Ok(LineSurvey {
         count,
         bytes,
         repeated,
-    }
+    })
 }
 
 // Line by line: 15 for another form, then 12 for a text over its limits or where the patch is full.
-pub fn survey_lines(list: &[u8], collection: u64) -> LineSurvey
+pub fn survey_lines(list: &[u8], collection: u64) -> Result<LineSurvey, ImportRefusal>
     ensures { result ≡ survey_of collection (read_terms 0 (lines list.now)) }
 {
     let mut targets = [0u64; MutationTarget::PATCH_NUMBERS];

@@ -11,7 +11,6 @@ use crate::insertion::insertion;
 use patch_part_writer::extent::{HEADING_BYTES, head_size, operation_size};
 use patch_part_writer::head::{store_head, store_heading};
 use patch_part_writer::operation::store_operation;
-use patch_terms::LineRead;
 use projection_patch::patch::{ProjectionPatch, ProjectionPatchEdition};
 
 // The operations of the lines, from an index on.
@@ -22,25 +21,11 @@ fn write_lines(list: &[u8], collection: u64, out: &mut [u8], from: usize)
     let mut at = 0;
     let mut next = from;
     while at < list.len() {
-        match patch_terms::reread_line(list, at) {
-            LineRead::Term {
-                key,
-                start,
-                len,
-                next: behind,
-            } => {
-                let operation = insertion(collection, key, start, len);
-                store_operation(out, next, operation, list);
-                next += operation_size(operation);
-                at = behind;
-            }
-            LineRead::OtherForm => {
-                return;
-            }
-            LineRead::OverCapacity => {
-                return;
-            }
-        }
+        let line = patch_terms::reread_line(list, at);
+        let operation = insertion(collection, line.key, line.start, line.len);
+        store_operation(out, next, operation, list);
+        next += operation_size(operation);
+        at = line.next;
     }
 }
 

@@ -1,5 +1,5 @@
 -- What is answered of a line by where its tabs stand, what its key spells and how its text is judged.
-use Rattle.std.specs.Prelude.{ℕ, suc, ◌-◌, ◌≤◌, ◌<◌, ◌≡◌, Bool, ◌&&◌, ◌≢◌, eqb, if◌then◌else◌}
+use Rattle.std.specs.Prelude.{ℕ, suc, ◌-◌, ◌≤◌, ◌<◌, ◌≡◌, Bool, ◌&&◌, ◌≢◌, eqb, Result, Ok, Err, if◌then◌else◌}
 use Rattle.std.proofs.Math.Path.{refl, sym, ap}
 use Rattle.std.proofs.Common.{◌∙◌, arith}
 use Rattle.std.proofs.Math.Bool.{true, false}
@@ -18,23 +18,24 @@ use Rattle.projection_patch.specs.TextRule.{judged, judgement}
 use Rattle.projection_patch.specs.declared.text_rule.TextJudgement.TheVariants.{Fits, Malformed, ManyCharacters}
 use Rattle.spec_import.specs.Import.{Term, term_with, term_of_fields, read_term, keeps_text}
 use Rattle.spec_import.proofs.FormLaws.{some_part}
-use Rattle.patch_terms.specs.declared.TermRead.TheVariants.{Term as Read, OtherForm, OverCapacity}
+use Rattle.patch_terms.specs.declared.TermRefusal.{TermRefusal}
+use Rattle.patch_terms.specs.declared.TermRefusal.TheVariants.{OtherForm, OverCapacity}
 use Rattle.patch_terms.specs.Places.{byte_place_of}
 use Rattle.patch_terms.specs.PlacesLaws.{byte_place_of_within, place_lacks, place_found, place_none}
-use Rattle.patch_terms.specs.Answers.{judged_term, term_to, term_answer}
+use Rattle.patch_terms.specs.Answers.{term_ok, judged_term, term_to, term_answer}
 
 -- ---- the text
 
 module _ (k start : ℕ) (t : List ℕ) where
-  pub term_malformed : judgement t ≡ Malformed → OtherForm ≡ judged_term k start t
+  pub term_malformed : judgement t ≡ Malformed → Err OtherForm ≡ judged_term k start t
   term_malformed e = go (allowed true t) refl (few_characters true t) e
     where
-      go : (a : Bool) → allowed true t ≡ a → (f : Bool) → judged a f ≡ Malformed → OtherForm ≡ judged_term k start t
+      go : (a : Bool) → allowed true t ≡ a → (f : Bool) → judged a f ≡ Malformed → Err OtherForm ≡ judged_term k start t
       go true h true e = absurd (let z : ◌≡◌ {A = ℕ} 0 1 = cc in omega arith)
       go true h false e = absurd (let z : ◌≡◌ {A = ℕ} 0 1 = cc in omega arith)
       go false h f e = sym (rw h)
 
-  pub term_many : judgement t ≡ ManyCharacters → OverCapacity ≡ judged_term k start t
+  pub term_many : judgement t ≡ ManyCharacters → Err OverCapacity ≡ judged_term k start t
   unfolding keeps_text
   term_many e = go (allowed true t) refl (few_characters true t) refl e
     where
@@ -42,7 +43,7 @@ module _ (k start : ℕ) (t : List ℕ) where
       not_both true = refl
       not_both false = refl
 
-      go : (a : Bool) → allowed true t ≡ a → (f : Bool) → few_characters true t ≡ f → judged a f ≡ ManyCharacters → OverCapacity ≡ judged_term k start t
+      go : (a : Bool) → allowed true t ≡ a → (f : Bool) → few_characters true t ≡ f → judged a f ≡ ManyCharacters → Err OverCapacity ≡ judged_term k start t
       go true h true g e = absurd (let z : ◌≡◌ {A = ℕ} 0 1 = cc in omega arith)
       go true h false g e = sym (rw (h, g, not_both))
       go false h f g e = absurd (let z : ◌≡◌ {A = ℕ} 0 1 = cc in omega arith)
@@ -56,11 +57,11 @@ module _ (k start : ℕ) (t : List ℕ) where
         go true false e = absurd (let z : ◌≡◌ {A = ℕ} 0 1 = cc in omega arith)
         go false f e = absurd (let z : ◌≡◌ {A = ℕ} 0 1 = cc in omega arith)
 
-    pub term_long : text_bytes < length t → OverCapacity ≡ judged_term k start t
+    pub term_long : text_bytes < length t → Err OverCapacity ≡ judged_term k start t
     unfolding keeps_text
     term_long h = sym (rw (allowed_few.0, lt-leb (length t) text_bytes h))
 
-    pub term_kept : length t ≤ text_bytes → Read k start ≡ judged_term k start t
+    pub term_kept : length t ≤ text_bytes → term_ok k start ≡ judged_term k start t
     unfolding keeps_text
     term_kept h = sym (rw (allowed_few.0, le-leb (length t) text_bytes h, allowed_few.1))
 
@@ -71,7 +72,7 @@ module _ (line : List ℕ) where
   at_tab = byte_place_of tab line
 
   -- no tab
-  pub line_whole : at_tab ≡ length line → OtherForm ≡ term_answer line
+  pub line_whole : at_tab ≡ length line → Err OtherForm ≡ term_answer line
   unfolding read_term term_of_fields
   line_whole h = sym (ap (λ (fs : List (List ℕ)). term_to (length line) (term_of_fields fs)) (split_whole tab line (place_none tab line h)))
 
@@ -86,7 +87,7 @@ module _ (line : List ℕ) where
     parted = ap (split tab) (place_found tab line found) ∙ split_part tab key behind (place_lacks tab line)
 
     -- a second tab
-    pub line_second_tab : byte_place_of tab behind < length behind → OtherForm ≡ term_answer line
+    pub line_second_tab : byte_place_of tab behind < length behind → Err OtherForm ≡ term_answer line
     unfolding read_term term_of_fields
     line_second_tab h =
         let first = take (byte_place_of tab behind) behind in
@@ -101,7 +102,7 @@ module _ (line : List ℕ) where
       two = ap (λ (fs : List (List ℕ)). term_to (length line) (term_of_fields fs)) (parted ∙ ap (λ (fs : List (List ℕ)). key ∷ fs) (split_whole tab behind (place_none tab behind only)))
 
       -- no key
-      pub line_unspelled : read_decimal key ≡ none → OtherForm ≡ term_answer line
+      pub line_unspelled : read_decimal key ≡ none → Err OtherForm ≡ term_answer line
       unfolding term_with
       line_unspelled h = sym (two ∙ rw h)
 
@@ -116,20 +117,30 @@ module _ (line : List ℕ) where
           go true e = rw (h, e)
           go false e = rw (h, e)
 
+-- answers that are equal hold the same
+pairs_same : {p q : ℕ × ℕ} → ◌≡◌ {A = Result (ℕ × ℕ) TermRefusal} (Ok p) (Ok q) → p ≡ q
+pairs_same e = cc
+
+keys_same : {m n k l : ℕ} → term_ok m k ≡ term_ok n l → m ≡ n
+keys_same e = ap (λ (p : ℕ × ℕ). p.0) (pairs_same e)
+
+starts_same : {m n k l : ℕ} → term_ok m k ≡ term_ok n l → k ≡ l
+starts_same e = ap (λ (p : ℕ × ℕ). p.1) (pairs_same e)
+
 -- a text starts within its line
-pub starts_within : (n : ℕ) (o : Option Term) (k start : ℕ) → term_to n o ≡ Read k start → start ≤ n
+pub starts_within : (n : ℕ) (o : Option Term) (k start : ℕ) → term_to n o ≡ term_ok k start → start ≤ n
 starts_within n none k start e = absurd (let z : ◌≡◌ {A = ℕ} 0 1 = cc in omega arith)
 starts_within n (some t) k start e = go (keeps_text t) e
   where
-    go : (b : Bool) → (if b then Read t.key (n - length t.words) else OverCapacity) ≡ Read k start → start ≤ n
-    go true e = let same : n - length t.words ≡ start = cc in omega arith
+    go : (b : Bool) → (if b then term_ok t.key (n - length t.words) else Err OverCapacity) ≡ term_ok k start → start ≤ n
+    go true e = let same : n - length t.words ≡ start = starts_same e in omega arith
     go false e = absurd (let z : ◌≡◌ {A = ℕ} 0 1 = cc in omega arith)
 
 -- ---- a line that is known to hold a term
 
-module _ (line : List ℕ) (k start : ℕ) (is : term_answer line ≡ Read k start) where
-  other_never : {C : Type 0} → OtherForm ≡ term_answer line → C
-  other_never e = absurd (let same : OtherForm ≡ Read k start = e ∙ is in let z : ◌≡◌ {A = ℕ} 0 1 = cc in omega arith)
+module _ (line : List ℕ) (k start : ℕ) (is : term_answer line ≡ term_ok k start) where
+  other_never : {C : Type 0} → Err OtherForm ≡ term_answer line → C
+  other_never e = absurd (let same : Err OtherForm ≡ term_ok k start = e ∙ is in let z : ◌≡◌ {A = ℕ} 0 1 = cc in omega arith)
 
   -- it has a tab
   pub known_tab : byte_place_of tab line < length line
@@ -158,12 +169,12 @@ module _ (line : List ℕ) (k start : ℕ) (is : term_answer line ≡ Read k sta
       behind : List ℕ
       behind = drop (suc (byte_place_of tab line)) line
 
-      by_text : (n : ℕ) → read_decimal (take (byte_place_of tab line) line) ≡ some n → (a b : Bool) → allowed true behind ≡ a → keeps_text (record { key = n; words = behind }) ≡ b → judged_term n (suc (byte_place_of tab line)) behind ≡ Read k start
+      by_text : (n : ℕ) → read_decimal (take (byte_place_of tab line) line) ≡ some n → (a b : Bool) → allowed true behind ≡ a → keeps_text (record { key = n; words = behind }) ≡ b → judged_term n (suc (byte_place_of tab line)) behind ≡ term_ok k start
           → (read_decimal (take (byte_place_of tab line) line) ≡ some k) × (start ≡ suc (byte_place_of tab line))
       by_text n h true true a b e =
-          let same : Read n (suc (byte_place_of tab line)) ≡ Read k start = rw (a, b) at e in
-          let keys : n ≡ k = cc in
-          let starts : suc (byte_place_of tab line) ≡ start = cc in
+          let same : term_ok n (suc (byte_place_of tab line)) ≡ term_ok k start = rw (a, b) at e in
+          let keys : n ≡ k = keys_same same in
+          let starts : suc (byte_place_of tab line) ≡ start = starts_same same in
           (h ∙ ap some keys, sym starts)
       by_text n h true false a b e = absurd (let z : ◌≡◌ {A = ℕ} 0 1 = cc (rw (a, b) at e) in omega arith)
       by_text n h false b a c e = absurd (let z : ◌≡◌ {A = ℕ} 0 1 = cc (rw a at e) in omega arith)

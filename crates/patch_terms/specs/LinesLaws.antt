@@ -1,5 +1,5 @@
 -- A line that is read in place, among the lines of its list: the term that it holds, and the lines that are left.
-use Rattle.std.specs.Prelude.{ℕ, suc, ◌+◌, ◌-◌, ◌≤◌, ◌<◌, true, List, [], ◌∷◌, ◌++◌, take, drop}
+use Rattle.std.specs.Prelude.{ℕ, suc, ◌+◌, ◌-◌, ◌≤◌, ◌<◌, true, List, [], ◌∷◌, ◌++◌, take, drop, Result, Ok, Err}
 use Rattle.std.proofs.Math.Path.{◌≡◌, refl, ap}
 use Rattle.std.proofs.Common.{sym, ap₂, ◌∙◌, arith, length-append, length-drop, drop_of_length-le, drop_at, drop-drop, take-add, length-take-le}
 use Rattle.std.proofs.Math.Option.{Option, none, some}
@@ -12,11 +12,12 @@ use Rattle.spec_patch.specs.Sizes.{patch_operations}
 use Rattle.spec_import.specs.Import.{Term, other_form, over_capacity, lines, read_term, keeps_text, terms, faulty, also, line_then, read_terms}
 use Rattle.spec_import.proofs.LineLaws.{line_of}
 use Rattle.spec_import.proofs.FormLaws.{form_exactly}
-use Rattle.patch_terms.specs.declared.TermRead.TheVariants as term-read
-use Rattle.patch_terms.specs.declared.LineRead.TheVariants as Line-read
+use Rattle.patch_terms.specs.declared.TermRefusal.{TermRefusal}
+use Rattle.patch_terms.specs.declared.TermRefusal.TheVariants.{OtherForm, OverCapacity}
+use Rattle.patch_terms.specs.declared.TermLine.{TermLine}
 use Rattle.patch_terms.specs.Places.{byte_place_of, first_term_line}
 use Rattle.patch_terms.specs.PlacesLaws.{byte_place_of_within, lines_at}
-use Rattle.patch_terms.specs.Answers.{term_to, line_to, line_answer}
+use Rattle.patch_terms.specs.Answers.{term_to, line_ok, line_to, line_answer}
 
 -- the text of a line is its end
 text_last : (l : List ℕ) (t : Term) → read_term l ≡ some t → (drop (length l - length t.words) l ≡ t.words) × (length t.words ≤ length l)
@@ -34,6 +35,10 @@ last_of_first l m n small enough =
 
 abbrev pub term_of : List ℕ → ℕ → ℕ → ℕ → Term
 term_of list k start len = record { key = k; words = take len (drop start list) }
+
+-- answers that are equal hold the same
+lines_same : {l m : TermLine} → ◌≡◌ {A = Result TermLine TermRefusal} (Ok l) (Ok m) → l ≡ m
+lines_same e = cc
 
 module _ (list : List ℕ) (at : ℕ) where
   abbrev bytes : List ℕ
@@ -66,21 +71,22 @@ module _ (list : List ℕ) (at : ℕ) where
         omega (arith, last.1, first_long, byte_place_of_within newline bytes, length-drop at list),
       )
 
-  pub term_at : (k start len next : ℕ) → at ≤ length list → line_answer at bytes ≡ Line-read.Term k start len next → TermAt k start len next
+  pub term_at : (k start len next : ℕ) → at ≤ length list → line_answer at bytes ≡ line_ok k start len next → TermAt k start len next
   term_at k start len next low e = by_term (read_term first) refl e
     where
       by_place : (t : Term) → read_term first ≡ some t → keeps_text t ≡ true
-          → Line-read.Term t.key (at + (length first - length t.words)) ((at + length first) - (at + (length first - length t.words))) (at + length first + 1) ≡ Line-read.Term k start len next → TermAt k start len next
+          → line_ok t.key (at + (length first - length t.words)) ((at + length first) - (at + (length first - length t.words))) (at + length first + 1) ≡ line_ok k start len next → TermAt k start len next
       by_place t h kept e =
-          let keys : t.key ≡ k = cc in
-          let starts : at + (length first - length t.words) ≡ start = cc in
-          let lens : (at + length first) - (at + (length first - length t.words)) ≡ len = cc in
-          let nexts : at + length first + 1 ≡ next = cc in
+          let lines = lines_same e in
+          let keys : t.key ≡ k = ap (λ (l : TermLine). l.key) lines in
+          let starts : at + (length first - length t.words) ≡ start = ap (λ (l : TermLine). l.start) lines in
+          let lens : (at + length first) - (at + (length first - length t.words)) ≡ len = ap (λ (l : TermLine). l.len) lines in
+          let nexts : at + length first + 1 ≡ next = ap (λ (l : TermLine). l.next) lines in
           let placed = words_at t h low start len starts (ap (λ (x : ℕ). (at + length first) - x) (sym starts) ∙ lens) in
           let is : t ≡ term_of list k start len = λ i. record { key = keys i; words = placed.0 i } in
           record { holds = h ∙ ap some is; kept = sym (ap keeps_text is) ∙ kept; ends = omega (arith, first_long); inside = placed.1 }
 
-      by_term : (o : Option Term) → read_term first ≡ o → line_to at (at + length first) (term_to (length first) o) ≡ Line-read.Term k start len next → TermAt k start len next
+      by_term : (o : Option Term) → read_term first ≡ o → line_to at (at + length first) (term_to (length first) o) ≡ line_ok k start len next → TermAt k start len next
       by_term none h e = absurd (let z : ◌≡◌ {A = ℕ} 0 1 = cc in omega arith)
       by_term (some t) h e =
           test_cases (keeps_text t)
@@ -102,22 +108,22 @@ module _ (list : List ℕ) (at : ℕ) where
     unfolding line_then
     reads_full k start len next t full = step ∙ rw (t.holds, t.kept, le-ltb n patch_operations full)
 
-    pub reads_other : line_answer at bytes ≡ Line-read.OtherForm → read_terms n (lines bytes) ≡ faulty other_form
+    pub reads_other : line_answer at bytes ≡ Err OtherForm → read_terms n (lines bytes) ≡ faulty other_form
     unfolding line_then
     reads_other e = step ∙ go (read_term first) refl e
       where
-        go : (o : Option Term) → read_term first ≡ o → line_to at (at + length first) (term_to (length first) o) ≡ Line-read.OtherForm → line_then n (read_term first) (read_terms (suc n) (lines (drop (suc (at + byte_place_of newline bytes)) list))) ≡ faulty other_form
+        go : (o : Option Term) → read_term first ≡ o → line_to at (at + length first) (term_to (length first) o) ≡ Err OtherForm → line_then n (read_term first) (read_terms (suc n) (lines (drop (suc (at + byte_place_of newline bytes)) list))) ≡ faulty other_form
         go none h e = rw h
         go (some t) h e =
             test_cases (keeps_text t)
             (λ b. absurd (let z : ◌≡◌ {A = ℕ} 0 1 = cc (rw b at e) in omega arith))
             (λ b. absurd (let z : ◌≡◌ {A = ℕ} 0 1 = cc (rw b at e) in omega arith))
 
-    pub reads_over : line_answer at bytes ≡ Line-read.OverCapacity → read_terms n (lines bytes) ≡ faulty over_capacity
+    pub reads_over : line_answer at bytes ≡ Err OverCapacity → read_terms n (lines bytes) ≡ faulty over_capacity
     unfolding line_then
     reads_over e = step ∙ go (read_term first) refl e
       where
-        go : (o : Option Term) → read_term first ≡ o → line_to at (at + length first) (term_to (length first) o) ≡ Line-read.OverCapacity → line_then n (read_term first) (read_terms (suc n) (lines (drop (suc (at + byte_place_of newline bytes)) list))) ≡ faulty over_capacity
+        go : (o : Option Term) → read_term first ≡ o → line_to at (at + length first) (term_to (length first) o) ≡ Err OverCapacity → line_then n (read_term first) (read_terms (suc n) (lines (drop (suc (at + byte_place_of newline bytes)) list))) ≡ faulty over_capacity
         go none h e = absurd (let z : ◌≡◌ {A = ℕ} 0 1 = cc in omega arith)
         go (some t) h e =
             test_cases (keeps_text t)

@@ -1,11 +1,15 @@
 -- What stands before and behind the first place of a byte; and the first line of a list.
 use Prim.Native.Nat.{ℕ, suc, ◌+◌, ◌≤◌, ◌<◌}
-use Rattle.std.specs.Prelude.{◌≡◌, true, ◌≢◌, eqb, length, take, drop, get_or}
+use Rattle.std.specs.Prelude.{◌≡◌, true, ◌≢◌, eqb, length, take, drop, get_or, ◌==◌}
+use Rattle.std.specs.Prelude.{Bool, false, nat_lt}
+use Rattle.std.specs.Option.{unwrap_or}
+use Rattle.std.specs.List.{position, position_or_len}
+use Rattle.std.proofs.lemmas.List.Recursion.{is_position_or_len}
 use Rattle.std.proofs.Math.Path.{refl, ap}
 use Rattle.std.proofs.Common.{sym, ◌∙◌, drop_of_length-le, take_all, drop-cons, drop-drop}
 use mathlib.Core.List.{List, [], ◌∷◌, ◌++◌}
 use native.Mathlib.Omega.{arith}
-use borrow.Author.Tests.{eqb-true, eq-eqb, ne_eqb}
+use borrow.Author.Tests.{eqb-true, eq-eqb, ne_eqb, ltb-false}
 use Rattle.spec_lists.proofs.ListLaws.{test_cases}
 use Rattle.spec_listing.specs.Escapes.{newline}
 use Rattle.spec_listing.specs.Split.{prepend, lacks}
@@ -36,6 +40,19 @@ module _ (byte : ℕ) where
   -- or there is none
   pub place_none : (l : List ℕ) → byte_place_of byte l ≡ length l → lacks byte l ≡ true
   place_none l h = ap (lacks byte) (sym (take_all (byte_place_of byte l) l (omega arith))) ∙ place_lacks l
+
+  -- it is the library's search
+  pub place_is : (l : List ℕ) → byte_place_of byte l ≡ position_or_len (λ b. b == byte) l
+  unfolding byte_place_of
+  place_is l = is_position_or_len (byte_place_of byte) (λ b. b == byte) refl (λ x xs. test_cases (eqb x byte) (λ t. rw t) (λ t. rw t (omega arith))) l
+
+  -- and that is as far as its length where it finds none
+  pub place_or_length : (l : List ℕ) → unwrap_or (position (λ b. b == byte) l) (length l) ≡ byte_place_of byte l
+  place_or_length l = go (nat_lt (byte_place_of byte l) (length l)) refl
+    where
+      go : (t : Bool) → nat_lt (byte_place_of byte l) (length l) ≡ t → unwrap_or (position (λ b. b == byte) l) (length l) ≡ byte_place_of byte l
+      go true e = rw (← place_is l, e)
+      go false e = rw (← place_is l, e) (omega (arith, ltb-false (byte_place_of byte l) (length l) e, byte_place_of_within l))
 
   -- ---- the scan: what is left answers as the whole does
 

@@ -23,16 +23,16 @@ abbrev line : After-place_of-tab → List ℕ
 line k = k.args.line.now
 
 within : (k : After-place_of-tab) → k.place_of-tab.result ≤ length (line k)
-within k = omega (arith, byte_place_of_within tab (line k), k.place_of-tab.ensures)
+within k = omega (arith, byte_place_of_within tab (line k), k.place_of-tab.ensures.place)
 
 abbrev start : Else-tab-line → ℕ
 start c = c.place_of-tab.result + 1
 
 found : (c : Else-tab-line) → byte_place_of tab (line (goal.at.Else-tab-line c).After-place_of-tab) < length (line (goal.at.Else-tab-line c).After-place_of-tab)
-found c = omega (arith, within (goal.at.Else-tab-line c).After-place_of-tab, c.place_of-tab.ensures, c.if-tab-line.false)
+found c = omega (arith, within (goal.at.Else-tab-line c).After-place_of-tab, c.place_of-tab.ensures.place, c.if-tab-line.false)
 
 started : (c : Else-tab-line) → start c ≡ suc (byte_place_of tab (line (goal.at.Else-tab-line c).After-place_of-tab))
-started c = omega (arith, c.place_of-tab.ensures)
+started c = omega (arith, c.place_of-tab.ensures.place)
 
 inside : (c : Else-tab-line) → start c ≤ length (line (goal.at.Else-tab-line c).After-place_of-tab)
 inside c = omega (arith, found c, started c)
@@ -45,15 +45,15 @@ lent c = lent_from_lem (line (goal.at.Else-tab-line c).After-place_of-tab) (star
 
 only : (c : Else-place_of-line) → byte_place_of tab (behind (goal.at.Else-place_of-line c).Else-tab-line) ≡ length (behind (goal.at.Else-place_of-line c).Else-tab-line)
 only c =
-    omega (arith, byte_place_of_within tab (behind (goal.at.Else-place_of-line c).Else-tab-line), sym (c.place_of.ensures ∙ ap (byte_place_of tab) (lent (goal.at.Else-place_of-line c).Else-tab-line)), c.if-place_of-line.false, length-drop (suc (byte_place_of tab (line (goal.at.Else-place_of-line c).After-place_of-tab))) (line (goal.at.Else-place_of-line c).After-place_of-tab), started (goal.at.Else-place_of-line c).Else-tab-line)
+    omega (arith, byte_place_of_within tab (behind (goal.at.Else-place_of-line c).Else-tab-line), sym (c.place_of.ensures.place ∙ ap (byte_place_of tab) (lent (goal.at.Else-place_of-line c).Else-tab-line)), c.if-place_of-line.false, length-drop (suc (byte_place_of tab (line (goal.at.Else-place_of-line c).After-place_of-tab))) (line (goal.at.Else-place_of-line c).After-place_of-tab), started (goal.at.Else-place_of-line c).Else-tab-line)
 
 -- what the bytes before it spell
 spelled : (k : After-read_u64) → let l = line (goal.at.After-read_u64 k).After-place_of-tab in read_decimal (take (byte_place_of tab l) l) ≡ decimal_u64 k.read_u64.result
 spelled k =
-    sym (k.read_u64.ensures ∙ ap (λ (n : ℕ). read_decimal (take n (line (goal.at.After-read_u64 k).After-place_of-tab))) k.place_of-tab.ensures)
+    sym (k.read_u64.ensures ∙ ap (λ (n : ℕ). read_decimal (take n (line (goal.at.After-read_u64 k).After-place_of-tab))) k.place_of-tab.ensures.place)
 
 pub returns-then-tab-line : goal.returns-then-tab-line
-returns-then-tab-line c = line_whole (line (goal.at.returns-then-tab-line c).After-place_of-tab) (sym c.place_of-tab.ensures ∙ c.if-tab-line.true)
+returns-then-tab-line c = line_whole (line (goal.at.returns-then-tab-line c).After-place_of-tab) (sym c.place_of-tab.ensures.place ∙ c.if-tab-line.true)
 
 pub overflow_add-start : goal.overflow_add-start
 overflow_add-start c = omega (arith, inside c)
@@ -69,7 +69,7 @@ overflow_sub-line c = inside (goal.at.overflow_sub-line c).Else-tab-line
 
 pub returns-then-place_of-line : goal.returns-then-place_of-line
 returns-then-place_of-line c =
-    line_second_tab (line (goal.at.returns-then-place_of-line c).After-place_of-tab) (found (goal.at.returns-then-place_of-line c).Else-tab-line) (omega (arith, sym (c.place_of.ensures ∙ ap (byte_place_of tab) (lent (goal.at.returns-then-place_of-line c).Else-tab-line)), c.if-place_of-line.true, length-drop (suc (byte_place_of tab (line (goal.at.returns-then-place_of-line c).After-place_of-tab))) (line (goal.at.returns-then-place_of-line c).After-place_of-tab), started (goal.at.returns-then-place_of-line c).Else-tab-line))
+    line_second_tab (line (goal.at.returns-then-place_of-line c).After-place_of-tab) (found (goal.at.returns-then-place_of-line c).Else-tab-line) (omega (arith, sym (c.place_of.ensures.place ∙ ap (byte_place_of tab) (lent (goal.at.returns-then-place_of-line c).Else-tab-line)), c.if-place_of-line.true, length-drop (suc (byte_place_of tab (line (goal.at.returns-then-place_of-line c).After-place_of-tab))) (line (goal.at.returns-then-place_of-line c).After-place_of-tab), started (goal.at.returns-then-place_of-line c).Else-tab-line))
 
 pub slice_bounds-read_u64-end : goal.slice_bounds-read_u64-end
 slice_bounds-read_u64-end c = sym (length-take-le _ _ (within (goal.at.slice_bounds-read_u64-end c).After-place_of-tab))

@@ -13,10 +13,9 @@ use Rattle.spec_decimal.specs.Decimal.{read_decimal}
 use Rattle.spec_listing.specs.Escapes.{tab, newline}
 use Rattle.bytes_decimal.specs.Read.{decimal_u64}
 use Rattle.spec_lists.proofs.ListLaws.{lent_from_lem}
-use Rattle.patch_terms.specs.declared.LineRead.TheVariants as Line-read
 use Rattle.patch_terms.specs.Places.{byte_place_of, first_term_line}
 use Rattle.patch_terms.specs.PlacesLaws.{byte_place_of_within}
-use Rattle.patch_terms.specs.Answers.{line_to, term_answer, HoldsTerm}
+use Rattle.patch_terms.specs.Answers.{line_ok, line_to, term_answer, HoldsTerm}
 use Rattle.patch_terms.specs.AnswersLaws.{known_tab, known_key}
 use Rattle.patch_terms.proofs.reread_line.Goals as goal
 use Rattle.patch_terms.proofs.reread_line.Goals.{After-place_of, After-place_of-2, After-read_u64, In-Read}
@@ -32,7 +31,7 @@ abbrev line : After-place_of → List ℕ
 line k = first_term_line (bytes k)
 
 place : (k : After-place_of) → k.place_of.result ≡ byte_place_of newline (bytes k)
-place k = k.place_of.ensures ∙ ap (byte_place_of newline) (lent_from_lem k.args.list.now (at k))
+place k = k.place_of.ensures.place ∙ ap (byte_place_of newline) (lent_from_lem k.args.list.now (at k))
 
 within : (k : After-place_of) → at k + k.place_of.result ≤ length k.args.list.now
 within k = omega (arith, place k, byte_place_of_within newline (bytes k), length-drop (at k) k.args.list.now, k.requires.0)
@@ -46,7 +45,7 @@ holds k = k.requires.1
 tab-at : (k : After-place_of-2) → k.place_of-2.result ≡ byte_place_of tab (line (goal.at.After-place_of-2 k).After-place_of)
 tab-at k =
     let size : at (goal.at.After-place_of-2 k).After-place_of + k.place_of.result - at (goal.at.After-place_of-2 k).After-place_of ≡ byte_place_of newline (bytes (goal.at.After-place_of-2 k).After-place_of) = omega (arith, place (goal.at.After-place_of-2 k).After-place_of) in
-    k.place_of-2.ensures ∙ ap (λ (n : ℕ). byte_place_of tab (take n (bytes (goal.at.After-place_of-2 k).After-place_of))) size
+    k.place_of-2.ensures.place ∙ ap (λ (n : ℕ). byte_place_of tab (take n (bytes (goal.at.After-place_of-2 k).After-place_of))) size
 
 before-end : (k : After-place_of-2) → k.place_of-2.result < k.place_of.result
 before-end k =
@@ -62,41 +61,20 @@ spelled k =
 short : (c : In-Read) → at (goal.at.In-Read c).After-place_of + c.place_of-2.result + 1 ≤ at (goal.at.In-Read c).After-place_of + c.place_of.result
 short c = omega (arith, before-end (goal.at.In-Read c).After-place_of-2)
 
-pub overflow_add-end : goal.overflow_add-end
-overflow_add-end c = omega (arith, within c)
-
-pub slice_bounds-place_of-end-2 : goal.slice_bounds-place_of-end-2
-slice_bounds-place_of-end-2 c = within c
-
-pub overflow_add-tab : goal.overflow_add-tab
-overflow_add-tab c = omega (arith, before-end c, within (goal.at.overflow_add-tab c).After-place_of)
-
-pub slice_bounds-read_u64-end : goal.slice_bounds-read_u64-end
-slice_bounds-read_u64-end c = omega (arith, before-end c, within (goal.at.slice_bounds-read_u64-end c).After-place_of)
-
-pub overflow_add-result : goal.overflow_add-result
-overflow_add-result c = omega (arith, short c, within (goal.at.overflow_add-result c).After-place_of)
-
-pub overflow_add-result-in-Read : goal.overflow_add-result-in-Read
-overflow_add-result-in-Read c = omega (arith, short c, within (goal.at.overflow_add-result-in-Read c).After-place_of)
-
 pub overflow_sub-result : goal.overflow_sub-result
 overflow_sub-result c = short c
 
-pub overflow_add-result-in-Read-2 : goal.overflow_add-result-in-Read-2
-overflow_add-result-in-Read-2 c = omega (arith, within (goal.at.overflow_add-result-in-Read-2 c).After-place_of)
-
-pub returns-in-Read : goal.returns-in-Read
-returns-in-Read c =
-    let h = holds (goal.at.returns-in-Read c).After-place_of in
-    let told : some c.in-Read.key ≡ some h.key = sym (ap decimal_u64 c.in-Read.is) ∙ spelled (goal.at.returns-in-Read c).After-read_u64 in
+pub returns : goal.returns
+returns c =
+    let h = holds (goal.at.returns c).After-place_of in
+    let told : some c.in-Read.key ≡ some h.key = sym (ap decimal_u64 c.in-Read.is) ∙ spelled (goal.at.returns c).After-read_u64 in
     let key : c.in-Read.key ≡ h.key = cc in
-    let starts : at (goal.at.returns-in-Read c).After-place_of + c.place_of-2.result + 1 ≡ at (goal.at.returns-in-Read c).After-place_of + h.start = omega (arith, tab-at (goal.at.returns-in-Read c).After-place_of-2, (known_key (line (goal.at.returns-in-Read c).After-place_of) h.key h.start h.is).1) in
-    let ends : at (goal.at.returns-in-Read c).After-place_of + c.place_of.result ≡ at (goal.at.returns-in-Read c).After-place_of + length (line (goal.at.returns-in-Read c).After-place_of) = ap (λ (n : ℕ). at (goal.at.returns-in-Read c).After-place_of + n) (sym (long (goal.at.returns-in-Read c).After-place_of)) in
-    (λ i. Line-read.Term (key i) (starts i) (ends i - starts i) (ends i + 1))
-    ∙ sym (ap (line_to (at (goal.at.returns-in-Read c).After-place_of) (at (goal.at.returns-in-Read c).After-place_of + length (line (goal.at.returns-in-Read c).After-place_of))) h.is)
+    let starts : at (goal.at.returns c).After-place_of + c.place_of-2.result + 1 ≡ at (goal.at.returns c).After-place_of + h.start = omega (arith, tab-at (goal.at.returns c).After-place_of-2, (known_key (line (goal.at.returns c).After-place_of) h.key h.start h.is).1) in
+    let ends : at (goal.at.returns c).After-place_of + c.place_of.result ≡ at (goal.at.returns c).After-place_of + length (line (goal.at.returns c).After-place_of) = ap (λ (n : ℕ). at (goal.at.returns c).After-place_of + n) (sym (long (goal.at.returns c).After-place_of)) in
+    (λ i. line_ok (key i) (starts i) (ends i - starts i) (ends i + 1))
+    ∙ sym (ap (line_to (at (goal.at.returns c).After-place_of) (at (goal.at.returns c).After-place_of + length (line (goal.at.returns c).After-place_of))) h.is)
 
-pub returns-in-Malformed : goal.returns-in-Malformed
-returns-in-Malformed c =
-    let told = sym (ap decimal_u64 c.in-Malformed.is) ∙ spelled (goal.at.returns-in-Malformed c).After-read_u64 in
+pub unreachable-requires : goal.unreachable-requires
+unreachable-requires c =
+    let told = sym (ap decimal_u64 c.in_default.is) ∙ spelled (goal.at.unreachable-requires c).After-read_u64 in
     absurd (let z : ◌≡◌ {A = ℕ} 0 1 = cc in omega arith)

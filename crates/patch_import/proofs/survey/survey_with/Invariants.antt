@@ -17,7 +17,7 @@ use Rattle.check_targets.specs.Marks.{Marked}
 use Rattle.check_targets.specs.MarksLaws.{marked_none}
 use Rattle.patch_terms.specs.LinesLaws.{TermAt, term_at}
 use Rattle.patch_import.specs.Survey.{term_bytes, survey_from, survey_of}
-use Rattle.patch_import.specs.SurveyLaws.{text_short, size_told, target_is, next_behind, survey_turn, survey_full, survey_other, survey_over, survey_end}
+use Rattle.patch_import.specs.SurveyLaws.{text_short, size_told, target_is, next_behind, survey_turn, survey_full, survey_refused, survey_end}
 use Rattle.patch_import.proofs.survey.survey_with.Given as goal
 
 abbrev pub invariant-loop-at : goal.invariant-loop-at

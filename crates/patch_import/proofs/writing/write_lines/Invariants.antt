@@ -16,7 +16,7 @@ use Rattle.patch_writer.proofs.Progress.{Progress, Next, progress_start, progres
 use Rattle.patch_terms.specs.LinesLaws.{term_of, TermAt, term_at}
 use Rattle.patch_import.specs.Survey.{insertion_of, term_bytes, insert_bytes, held_of}
 use Rattle.patch_import.specs.SurveyLaws.{inserts_term, text_short, size_told, next_behind}
-use Rattle.patch_import.specs.WritingLaws.{TermsLeft, Later, left_start, left_holds, left_other, left_over, left_end, later_terms, later_bytes, no_bytes}
+use Rattle.patch_import.specs.WritingLaws.{TermsLeft, Later, left_start, left_holds, left_end, later_terms, later_bytes, no_bytes}
 use Rattle.patch_import.proofs.writing.write_lines.Given as goal
 
 abbrev pub invariant-loop-at : goal.invariant-loop-at
