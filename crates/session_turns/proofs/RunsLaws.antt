@@ -1,5 +1,5 @@
 -- Both claims on turns for the code's calls.
-use Rattle.std.specs.Prelude.{ℕ, ◌*◌, ◌≤◌, ◌≡◌, refl, true, List, [], ◌∷◌, map, length, take}
+use Rattle.std.specs.Prelude.{ℕ, ◌*◌, ◌≤◌, ◌≡◌, refl, true, List, [], ◌∷◌, map, length, take, Option}
 use Rattle.std.proofs.Common.{sym, ap, ◌∙◌, arith}
 use Rattle.std.proofs.lemmas.List.{length-map}
 use Rattle.spec_turns.specs.Turns as model
@@ -8,7 +8,7 @@ use Rattle.spec_turns.specs.Calls.{Call, registers, turn_call, answers, times_na
 use Rattle.spec_turns.proofs.TurnsLaws.{register_senders, turn_senders}
 use Rattle.spec_turns.proofs.Fairness.{named_in_one_circle, named_in_each_circle}
 use Rattle.session_turns.specs.declared.SenderTurns.{SenderTurns}
-use Rattle.session_turns.specs.declared.TurnAnswer.{TurnAnswer}
+use Rattle.session_turns.specs.declared.Turn.{Turn}
 use Rattle.session_turns.specs.Meaning.{turns_of, registration_to, turn_answer_to, turn_taken_to}
 use Rattle.session_turns.specs.MeaningLaws.{told_next}
 use Rattle.session_turns.specs.Runs.{Runs, turn_answer_of}
@@ -18,7 +18,7 @@ answer_back model.nobody = refl
 answer_back (model.turn_of s n) = refl
 
 -- the turn calls answer what the definition answers
-pub runs_answers : (t : SenderTurns) (calls : List Call) (given : List TurnAnswer) → Runs t calls given → map turn_answer_of given ≡ answers (turns_of t) calls
+pub runs_answers : (t : SenderTurns) (calls : List Call) (given : List (Option Turn)) → Runs t calls given → map turn_answer_of given ≡ answers (turns_of t) calls
 unfolding answers registration_to turn_taken_to
 runs_answers t [] [] h = refl
 runs_answers t [] (a ∷ given) h = absurd h
@@ -33,7 +33,7 @@ runs_answers t (turn_call c ∷ calls) (a ∷ given) h =
     cc
 
 -- every list of calls has a run
-pub some_run : (t : SenderTurns) (calls : List Call) → (given : List TurnAnswer) × Runs t calls given
+pub some_run : (t : SenderTurns) (calls : List Call) → (given : List (Option Turn)) × Runs t calls given
 some_run t [] = ([], tt)
 some_run t (registers s ∷ calls) =
     let r = registration_to t (register (turns_of t) s) in
@@ -44,7 +44,7 @@ some_run t (turn_call c ∷ calls) =
     let later = some_run r.turns calls in
     (r.answer ∷ later.0, (r, refl, refl, later.1))
 
-module _ (t : SenderTurns) (s : ℕ) (calls : List Call) (given : List TurnAnswer) (runs : Runs t calls given) (waiting : waits (turns_of t) s ≡ true) where
+module _ (t : SenderTurns) (s : ℕ) (calls : List Call) (given : List (Option Turn)) (runs : Runs t calls given) (waiting : waits (turns_of t) s ≡ true) where
   -- as many answers as turn calls
   long : length given ≡ length (answers (turns_of t) calls)
   long = sym (length-map given turn_answer_of) ∙ ap length (runs_answers t calls given runs)

@@ -2,24 +2,19 @@
 #![tactic(auto)]
 
 ghost use Rattle.std.specs.Prelude.{◌≡◌, false, min, length, get_or};
-ghost use Rattle.spec_turns.specs.Turns.{most_senders, set_up_number, wrong_sender_count, refused, set_up, register_number, after, first_asked, first_waiting, next_sender, number_after};
+ghost use Rattle.spec_lists.specs.Options.{optional_of};
+ghost use Rattle.spec_turns.specs.Turns.{most_senders, set_up_number, wrong_sender_count, set_up, register_number, after, first_asked, first_waiting, next_sender, number_after};
 ghost use Rattle.session_lifecycle.specs.Meaning.{cursor_of};
-ghost use Rattle.session_turns.specs.Meaning.{sender_of, turns_of, set_up_to, register_refusal_of, Registers, TakesTurn};
+ghost use Rattle.session_turns.specs.Meaning.{turns_of, set_up_to, register_refusal_of, Registers, TakesTurn};
 
 use session_lifecycle::state::ProjectionReplayCursor;
-
-#[derive(Clone, Copy)]
-pub enum NamedSender {
-    Nobody,
-    Sender(usize),
-}
 
 // Of each sender, numbered from 0, whether it waits, and who was named last. Flags past the number of senders are never looked at.
 #[derive(Clone, Copy)]
 pub struct SenderTurns {
     pub senders: usize,
     pub waiting: [bool; SenderTurns::MOST_SENDERS],
-    pub last: NamedSender,
+    pub last: Option<usize>,
 }
 
 #[derive(Clone, Copy)]
@@ -35,19 +30,6 @@ impl SetUpRefusal {
             SetUpRefusal::WrongSenderCount => 21,
         }
     }
-}
-
-#[derive(Clone, Copy)]
-pub enum SetUpAnswer {
-    Made,
-    Refused(SetUpRefusal),
-}
-
-// Where the set-up was refused there are no turns, and a struct of no senders stands in their place.
-#[derive(Drop)]
-pub struct TurnsSetUp {
-    pub answer: SetUpAnswer,
-    pub turns: SenderTurns,
 }
 
 #[derive(Clone, Copy)]
@@ -67,28 +49,23 @@ impl RegisterRefusal {
     }
 }
 
+// The turns after a registration; where it was refused, those before it.
 #[derive(Clone, Copy)]
-pub enum RegisterAnswer {
-    Registered,
-    Refused(RegisterRefusal),
-}
-
-#[derive(Drop)]
 pub struct Registration {
-    pub answer: RegisterAnswer,
+    pub answer: Result<(), RegisterRefusal>,
     pub turns: SenderTurns,
 }
 
 // Whose turn it is, with the number for its batch.
 #[derive(Clone, Copy)]
-pub enum TurnAnswer {
-    Nobody,
-    Turn { sender: usize, number: u64 },
+pub struct Turn {
+    pub sender: usize,
+    pub number: u64,
 }
 
-#[derive(Drop)]
+#[derive(Clone, Copy)]
 pub struct TurnTaken {
-    pub answer: TurnAnswer,
+    pub answer: Option<Turn>,
     pub turns: SenderTurns,
 }
 
@@ -96,11 +73,7 @@ pub struct TurnTaken {
 fn with_flags(senders: usize) -> usize
     ensures { result ≡ min senders most_senders }
 {
-    if senders < SenderTurns::MOST_SENDERS {
-        senders
-    } else {
-        SenderTurns::MOST_SENDERS
-    }
+    senders.min(SenderTurns::MOST_SENDERS)
 }
 
 // The sender that follows in the circle: behind the last stands 0.
@@ -118,12 +91,12 @@ fn after(senders: usize, sender: usize) -> usize
 }
 
 // Who is asked first: the one after the one last named; at the start sender 0.
-fn first_asked(senders: usize, last: NamedSender) -> usize
-    ensures { result ≡ first_asked senders (sender_of last) }
+fn first_asked(senders: usize, last: Option<usize>) -> usize
+    ensures { result ≡ first_asked senders (optional_of last) }
 {
     match last {
-        NamedSender::Nobody => 0,
-        NamedSender::Sender(sender) => after(senders, sender),
+        None => 0,
+        Some(sender) => after(senders, sender),
     }
 }
 
@@ -131,37 +104,30 @@ fn first_asked(senders: usize, last: NamedSender) -> usize
 fn waits(waiting: &[bool], sender: usize) -> bool
     ensures { result ≡ get_or waiting.now sender false }
 {
-    if sender < waiting.len() {
-        return waiting[sender];
-    }
-    false
+    waiting.get(sender).copied().unwrap_or(false)
 }
 
 // Once around the circle, the first that waits.
-fn first_waiting(waiting: &[bool], from: usize) -> NamedSender
-    ensures { sender_of result ≡ first_waiting waiting.now (length waiting.now) from }
+fn first_waiting(waiting: &[bool], from: usize) -> Option<usize>
+    ensures { optional_of result ≡ first_waiting waiting.now (length waiting.now) from }
 {
-    let mut left = waiting.len();
     let mut sender = from;
-    while 0 < left {
+    for _ in 0..waiting.len() {
         if waits(waiting, sender) {
-            return NamedSender::Sender(sender);
+            return Some(sender);
         }
         sender = after(waiting.len(), sender);
-        left -= 1;
     }
-    NamedSender::Nobody
+    None
 }
 
 // Whose turn it is.
-fn next_sender(turns: SenderTurns) -> NamedSender
-    ensures { sender_of result ≡ next_sender (turns_of turns) }
+fn next_sender(turns: SenderTurns) -> Option<usize>
+    ensures { optional_of result ≡ next_sender (turns_of turns) }
 {
-    let waiting = turns.waiting;
-    let last = turns.last;
     let count = with_flags(turns.senders);
-    let from = first_asked(count, last);
-    first_waiting(&waiting[..count], from)
+    let from = first_asked(count, turns.last);
+    first_waiting(&turns.waiting[..count], from)
 }
 
 // The number after the cursor, 1 while it is Uninitialized, at the largest number that number again.
@@ -179,71 +145,43 @@ fn number_after(cursor: ProjectionReplayCursor) -> u64
     }
 }
 
-fn no_turns() -> TurnsSetUp
-    ensures { result ≡ set_up_to (refused wrong_sender_count) }
-{
-    let turns = SenderTurns {
-        senders: 0,
-        waiting: [false; SenderTurns::MOST_SENDERS],
-        last: NamedSender::Nobody,
-    };
-    TurnsSetUp {
-        answer: SetUpAnswer::Refused(SetUpRefusal::WrongSenderCount),
-        turns,
-    }
-}
-
 impl SenderTurns {
     pub const MOST_SENDERS: usize = 8;
 
     // The turns of one to eight senders, of whom nobody waits; any other number is refused.
-    pub fn new(senders: usize) -> TurnsSetUp
+    pub fn new(senders: usize) -> Result<SenderTurns, SetUpRefusal>
         ensures { result ≡ set_up_to (set_up senders) }
     {
-        if senders < 1 {
-            return no_turns();
+        if senders < 1 || SenderTurns::MOST_SENDERS < senders {
+            return Err(SetUpRefusal::WrongSenderCount);
         }
-        if SenderTurns::MOST_SENDERS < senders {
-            return no_turns();
-        }
-        let turns = SenderTurns {
+        Ok(SenderTurns {
             senders,
             waiting: [false; SenderTurns::MOST_SENDERS],
-            last: NamedSender::Nobody,
-        };
-        TurnsSetUp {
-            answer: SetUpAnswer::Made,
-            turns,
-        }
+            last: None,
+        })
     }
 
     // The sender waits from now on. A number out of the range is refused, then a sender that waits already.
     pub fn register(self, sender: usize) -> Registration
         ensures { Registers self sender result }
     {
-        let senders = self.senders;
-        let mut waiting = self.waiting;
-        let last = self.last;
-        if with_flags(senders) <= sender {
+        if with_flags(self.senders) <= sender {
             return Registration {
-                answer: RegisterAnswer::Refused(RegisterRefusal::UnknownSender),
+                answer: Err(RegisterRefusal::UnknownSender),
                 turns: self,
             };
         }
-        if waiting[sender] {
+        if self.waiting[sender] {
             return Registration {
-                answer: RegisterAnswer::Refused(RegisterRefusal::AlreadyWaiting),
+                answer: Err(RegisterRefusal::AlreadyWaiting),
                 turns: self,
             };
         }
-        waiting[sender] = true;
-        let turns = SenderTurns {
-            senders,
-            waiting,
-            last,
-        };
+        let mut turns = self;
+        turns.waiting[sender] = true;
         Registration {
-            answer: RegisterAnswer::Registered,
+            answer: Ok(()),
             turns,
         }
     }
@@ -252,27 +190,19 @@ impl SenderTurns {
     pub fn turn(self, cursor: ProjectionReplayCursor) -> TurnTaken
         ensures { TakesTurn self (cursor_of cursor) result }
     {
-        let senders = self.senders;
-        let mut waiting = self.waiting;
-        let found = next_sender(self);
-        match found {
-            NamedSender::Nobody => TurnTaken {
-                answer: TurnAnswer::Nobody,
+        let Some(sender) = next_sender(self) else {
+            return TurnTaken {
+                answer: None,
                 turns: self,
-            },
-            NamedSender::Sender(sender) => {
-                let number = number_after(cursor);
-                waiting[sender] = false;
-                let turns = SenderTurns {
-                    senders,
-                    waiting,
-                    last: found,
-                };
-                TurnTaken {
-                    answer: TurnAnswer::Turn { sender, number },
-                    turns,
-                }
-            }
+            };
+        };
+        let number = number_after(cursor);
+        let mut turns = self;
+        turns.waiting[sender] = false;
+        turns.last = Some(sender);
+        TurnTaken {
+            answer: Some(Turn { sender, number }),
+            turns,
         }
     }
 }

@@ -1,7 +1,6 @@
 -- `after` meets its contract.
 use mathlib.Core.Path.{sym}
 use native.Mathlib.Omega.{arith}
-use borrow.Author.Rules.{rules}
 use Rattle.spec_turns.proofs.CircleLaws.{after_next, after_last}
 use Rattle.session_turns.proofs.after.Goals as goal
 

@@ -1,5 +1,4 @@
 -- `number_after` meets its contract.
-use borrow.Author.Rules.{rules}
 use borrow.Author.Tests.{lt-ltb, le-ltb}
 use Rattle.spec_patch.specs.Sizes.{largest_u64}
 use Rattle.spec_turns.specs.Turns.{number_after}

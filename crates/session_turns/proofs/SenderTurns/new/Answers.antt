@@ -1,16 +1,16 @@
 -- `SenderTurns::new` meets its contract.
-use mathlib.Core.Path.{◌∙◌}
 use native.Mathlib.Omega.{arith}
-use borrow.Author.Rules.{rules}
 use Rattle.session_turns.specs.Meaning.{fresh_turns}
 use Rattle.session_turns.specs.MeaningLaws.{sets_up, refuses_none, refuses_many}
 use Rattle.session_turns.proofs.SenderTurns.new.Goals as goal
+use Rattle.session_turns.proofs.SenderTurns.new.Goals.{then-senders-lt1-via-then-senders-lt1, then-senders-lt1-via-else-senders-lt1+then-senders-gt-MOST_SENDERS}
 
 pub returns-then-senders-lt1 : goal.returns-then-senders-lt1
-returns-then-senders-lt1 c = c.no_turns.ensures ∙ refuses_none _ (omega arith)
-
-pub returns-then-senders-gt-MOST_SENDERS : goal.returns-then-senders-gt-MOST_SENDERS
-returns-then-senders-gt-MOST_SENDERS c = c.no_turns-then-senders-gt-MOST_SENDERS.ensures ∙ refuses_many _ (omega arith)
+returns-then-senders-lt1 c =
+    elim c.then-senders-lt1.branch [
+      | then-senders-lt1-via-then-senders-lt1 w ↦ refuses_none _ w.if-senders-lt1.true
+      | then-senders-lt1-via-else-senders-lt1+then-senders-gt-MOST_SENDERS w ↦ refuses_many _ w.if-senders-gt-MOST_SENDERS.true
+    ]
 
 pub returns : goal.returns
 unfolding fresh_turns
