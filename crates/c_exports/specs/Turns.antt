@@ -1,13 +1,10 @@
 -- What the exported calls on turns answer, as numbers.
-use Rattle.std.specs.Prelude.{ℕ}
+use Rattle.std.specs.Prelude.{ℕ, Option, Some, None, Result, Ok, Err}
 use Rattle.spec_turns.specs.Turns.{set_up_number, wrong_sender_count, register_number}
 use Rattle.session_turns.specs.Meaning.{register_refusal_of}
-use Rattle.session_turns.specs.declared.SetUpAnswer.{SetUpAnswer}
-use Rattle.session_turns.specs.declared.SetUpAnswer.TheVariants as set-up
-use Rattle.session_turns.specs.declared.RegisterAnswer.{RegisterAnswer}
-use Rattle.session_turns.specs.declared.RegisterAnswer.TheVariants as register
-use Rattle.session_turns.specs.declared.TurnAnswer.{TurnAnswer}
-use Rattle.session_turns.specs.declared.TurnAnswer.TheVariants as turn
+use Rattle.session_turns.specs.declared.SetUpRefusal.{SetUpRefusal}
+use Rattle.session_turns.specs.declared.RegisterRefusal.{RegisterRefusal}
+use Rattle.session_turns.specs.declared.Turn.{Turn}
 use Rattle.session_lent_turns.specs.declared.LentSetUp.{LentSetUp}
 use Rattle.session_lent_turns.specs.declared.LentSetUp.TheVariants as lent-set-up
 use Rattle.session_lent_turns.specs.declared.LentRegistration.{LentRegistration}
@@ -17,9 +14,9 @@ use Rattle.session_lent_turns.specs.declared.LentTurn.TheVariants as lent-turn
 use Rattle.c_exports.specs.declared.turns.GeysertrayTurn.{GeysertrayTurn}
 
 -- 21
-abbrev pub set_up_told : SetUpAnswer → ℕ
-set_up_told set-up.Made = 0
-set_up_told (set-up.Refused f) = set_up_number wrong_sender_count
+abbrev pub set_up_told : Result (Unit {0}) SetUpRefusal → ℕ
+set_up_told (Ok u) = 0
+set_up_told (Err f) = set_up_number wrong_sender_count
 
 -- 3 for no turns, which eleven numbers always tell
 abbrev pub lent_set_up_told : LentSetUp → ℕ
@@ -27,18 +24,18 @@ lent_set_up_told (lent-set-up.Answered a) = set_up_told a
 lent_set_up_told lent-set-up.NoTurns = 3
 
 -- 19 or 20
-abbrev pub register_told : RegisterAnswer → ℕ
-register_told register.Registered = 0
-register_told (register.Refused f) = register_number (register_refusal_of f)
+abbrev pub register_told : Result (Unit {0}) RegisterRefusal → ℕ
+register_told (Ok u) = 0
+register_told (Err f) = register_number (register_refusal_of f)
 
 abbrev pub lent_register_told : LentRegistration → ℕ
 lent_register_told (lent-registration.Answered a) = register_told a
 lent_register_told lent-registration.NoTurns = 3
 
 -- nobody, or the sender with the number for its batch
-abbrev pub turn_to : TurnAnswer → GeysertrayTurn
-turn_to turn.Nobody = record { disposition = 0; named = 0; sender = 0; number = 0 }
-turn_to (turn.Turn s n) = record { disposition = 0; named = 1; sender = s; number = n }
+abbrev pub turn_to : Option Turn → GeysertrayTurn
+turn_to None = record { disposition = 0; named = 0; sender = 0; number = 0 }
+turn_to (Some t) = record { disposition = 0; named = 1; sender = t.sender; number = t.number }
 
 abbrev pub lent_turn_told : LentTurn → GeysertrayTurn
 lent_turn_told (lent-turn.Answered a) = turn_to a

@@ -8,7 +8,7 @@ ghost use Rattle.c_exports.specs.Turns.{set_up_told, lent_set_up_told, register_
 
 use session_lent::head;
 use session_lent_turns::{LentRegistration, LentSetUp, LentTurn};
-use session_turns::{RegisterAnswer, SetUpAnswer, TurnAnswer};
+use session_turns::{RegisterRefusal, SetUpRefusal, Turn};
 
 // Whether a sender was named (1), and then which, and the number for its batch.
 #[repr(C)]
@@ -22,12 +22,12 @@ pub struct GeysertrayTurn {
 
 const NO_TURNS: u64 = 3;
 
-fn set_up_told(answer: SetUpAnswer) -> u64
+fn set_up_told(answer: Result<(), SetUpRefusal>) -> u64
     ensures { result ≡ set_up_told answer }
 {
     match answer {
-        SetUpAnswer::Made => 0,
-        SetUpAnswer::Refused(refusal) => refusal.number(),
+        Ok(()) => 0,
+        Err(refusal) => refusal.number(),
     }
 }
 
@@ -51,12 +51,12 @@ pub fn geysertray_turns_set_up(
     lent_set_up_told(answer)
 }
 
-fn register_told(answer: RegisterAnswer) -> u64
+fn register_told(answer: Result<(), RegisterRefusal>) -> u64
     ensures { result ≡ register_told answer }
 {
     match answer {
-        RegisterAnswer::Registered => 0,
-        RegisterAnswer::Refused(refusal) => refusal.number(),
+        Ok(()) => 0,
+        Err(refusal) => refusal.number(),
     }
 }
 
@@ -80,21 +80,21 @@ pub fn geysertray_turns_register(
     lent_register_told(answer)
 }
 
-fn turn_to(answer: TurnAnswer) -> GeysertrayTurn
+fn turn_to(answer: Option<Turn>) -> GeysertrayTurn
     ensures { result ≡ turn_to answer }
 {
     match answer {
-        TurnAnswer::Nobody => GeysertrayTurn {
+        None => GeysertrayTurn {
             disposition: 0,
             named: 0,
             sender: 0,
             number: 0,
         },
-        TurnAnswer::Turn { sender, number } => GeysertrayTurn {
+        Some(turn) => GeysertrayTurn {
             disposition: 0,
             named: 1,
-            sender: sender as u64,
-            number,
+            sender: turn.sender as u64,
+            number: turn.number,
         },
     }
 }

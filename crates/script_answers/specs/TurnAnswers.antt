@@ -1,13 +1,12 @@
 -- The answer of a registration in the definitions' words.
-use Rattle.std.specs.Prelude.{◌≡◌, refl}
+use Rattle.std.specs.Prelude.{◌≡◌, refl, Result, Ok, Err}
 use Rattle.spec_turns.specs.Turns as model
-use Rattle.session_turns.specs.declared.RegisterAnswer.{RegisterAnswer}
-use Rattle.session_turns.specs.declared.RegisterAnswer.TheVariants.{Registered, Refused}
+use Rattle.session_turns.specs.declared.RegisterRefusal.{RegisterRefusal}
 use Rattle.session_turns.specs.Meaning.{register_refusal_of, register_answer_to}
 
-abbrev pub register_answer_of : RegisterAnswer → model.RegisterAnswer
-register_answer_of Registered = model.registered
-register_answer_of (Refused f) = model.register_refused (register_refusal_of f)
+abbrev pub register_answer_of : Result (Unit {0}) RegisterRefusal → model.RegisterAnswer
+register_answer_of (Ok u) = model.registered
+register_answer_of (Err f) = model.register_refused (register_refusal_of f)
 
 pub registration_told : (a : model.RegisterAnswer) → register_answer_of (register_answer_to a) ≡ a
 registration_told model.registered = refl

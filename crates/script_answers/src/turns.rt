@@ -7,42 +7,42 @@ ghost use Rattle.session_turns.specs.Meaning.{set_up_to};
 ghost use Rattle.session_turns.specs.Runs.{turn_answer_of};
 ghost use Rattle.script_answers.specs.TurnAnswers.{register_answer_of};
 
-use session_turns::{RegisterAnswer, SetUpAnswer, TurnAnswer};
+use session_turns::{RegisterRefusal, SenderTurns, SetUpRefusal, Turn};
 
-pub fn print_set_up(out: &mut [u8], at: Option<usize>, answer: SetUpAnswer) -> Option<usize>
-    ensures { (s : SetUp) → answer ≡ (set_up_to s).answer → Prints out.old at (set_up_line s) out.new result }
+pub fn print_set_up(out: &mut [u8], at: Option<usize>, answer: Result<SenderTurns, SetUpRefusal>) -> Option<usize>
+    ensures { (s : SetUp) → answer ≡ set_up_to s → Prints out.old at (set_up_line s) out.new result }
 {
     match answer {
-        SetUpAnswer::Made => listing_lines::print_number_line(out, at, 74, 0),
-        SetUpAnswer::Refused(refusal) => {
+        Ok(_) => listing_lines::print_number_line(out, at, 74, 0),
+        Err(refusal) => {
             listing_lines::print_number_line(out, at, 74, refusal.number())
         }
     }
 }
 
-pub fn print_registration(out: &mut [u8], at: Option<usize>, answer: RegisterAnswer) -> Option<usize>
+pub fn print_registration(out: &mut [u8], at: Option<usize>, answer: Result<(), RegisterRefusal>) -> Option<usize>
     ensures { Prints out.old at (register_line (register_answer_of answer)) out.new result }
 {
     match answer {
-        RegisterAnswer::Registered => listing_lines::print_number_line(out, at, 74, 0),
-        RegisterAnswer::Refused(refusal) => {
+        Ok(()) => listing_lines::print_number_line(out, at, 74, 0),
+        Err(refusal) => {
             listing_lines::print_number_line(out, at, 74, refusal.number())
         }
     }
 }
 
-pub fn print_turn(out: &mut [u8], at: Option<usize>, answer: TurnAnswer) -> Option<usize>
+pub fn print_turn(out: &mut [u8], at: Option<usize>, answer: Option<Turn>) -> Option<usize>
     ensures { Prints out.old at (turn_line (turn_answer_of answer)) out.new result }
 {
     let letter = bytes_printer::print_byte(out, at, 74);
     match answer {
-        TurnAnswer::Nobody => {
+        None => {
             let word = bytes_printer::print_field_bytes(out, letter, b"none");
             bytes_printer::print_newline(out, word)
         }
-        TurnAnswer::Turn { sender, number } => {
-            let named = bytes_printer::print_field_u64(out, letter, sender as u64);
-            let numbered = bytes_printer::print_field_u64(out, named, number);
+        Some(turn) => {
+            let named = bytes_printer::print_field_u64(out, letter, turn.sender as u64);
+            let numbered = bytes_printer::print_field_u64(out, named, turn.number);
             bytes_printer::print_newline(out, numbered)
         }
     }

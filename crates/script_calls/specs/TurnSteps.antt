@@ -14,14 +14,15 @@ use Rattle.spec_replay.specs.Answers.{no_session_line, set_up_line}
 use Rattle.spec_replay.specs.Replay.{State, Step, onward, asked_turns, settled, turned, with_turns}
 use Rattle.bytes_printer.specs.Prints.{Prints}
 use Rattle.session_turns.specs.declared.SenderTurns.{SenderTurns}
-use Rattle.session_turns.specs.declared.TurnsSetUp.{TurnsSetUp}
+use Rattle.session_turns.specs.declared.SetUpRefusal.{SetUpRefusal}
+use Rattle.std.specs.Result.{result_unwrap_or}
 use Rattle.session_turns.specs.declared.Registration.{Registration}
 use Rattle.session_turns.specs.declared.TurnTaken.{TurnTaken}
 use Rattle.session_turns.specs.Meaning.{set_up_to, registration_to, turn_taken_to, Registers, TakesTurn}
 use Rattle.session_turns.specs.Runs.{turn_answer_of}
 use Rattle.session_turns.proofs.RunsLaws.{answer_back}
 use Rattle.script_answers.specs.TurnAnswers.{register_answer_of, registration_told}
-use Rattle.script_calls.specs.TurnsHeld.{held_turns, TurnsHeld, after_set_up}
+use Rattle.script_calls.specs.TurnsHeld.{held_turns, TurnsHeld}
 use Rattle.script_calls.specs.TurnsHeldLaws.{turns_there, turns_nowhere, told_turns, held_next}
 use Rattle.script_calls.specs.declared.state.ReplayState.{ReplayState}
 use Rattle.script_calls.specs.declared.state.ReplayStep.{ReplayStep}
@@ -96,15 +97,15 @@ few_made k = by (between 1 most_senders k) refl
     by true e = (omega (arith, new_turns_senders k, leb-true 1 k (and_left (leb 1 k) (leb k most_senders) e)), omega (arith, new_turns_senders k, leb-true k most_senders (and_right (leb 1 k) (leb k most_senders) e)))
     by false e = tt
 
-module _ (s : ReplayState) (m : State) (h : ReplayHolds s m) (r : TurnsSetUp) (x : SenderTurns) (chosen : x ≡ after_set_up s.turns r.answer r.turns) (before after : List ℕ) (p : code.Option ℕ) where
+module _ (s : ReplayState) (m : State) (h : ReplayHolds s m) (r : Result SenderTurns SetUpRefusal) (x : SenderTurns) (chosen : x ≡ result_unwrap_or r s.turns) (before after : List ℕ) (p : code.Option ℕ) where
   settled_as : (u : SetUp) → FewMade u → r ≡ set_up_to u → Prints before (Some 0) (set_up_line u) after p
       → ReplayStepped s before after (record { state = with_latest_turns s x; printed = p; stopped = false }) (settled m u)
-  unfolding settled set_up_to after_set_up held_turns with_turns
+  unfolding settled set_up_to held_turns with_turns
   settled_as (model.made t) few is printed =
-      let made : x ≡ held_turns (some t) = chosen ∙ ap (λ (k : TurnsSetUp). after_set_up s.turns k.answer k.turns) is in
+      let made : x ≡ held_turns (some t) = chosen ∙ ap (λ (k : Result SenderTurns SetUpRefusal). result_unwrap_or k s.turns) is in
       step_goes_on refl (record { setup_is = h.setup_is; session_is = h.session_is; turns_are = record { are = made; few = few }; edition_is = h.edition_is }) printed
   settled_as (model.refused model.wrong_sender_count) few is printed =
-      let own : x ≡ s.turns = chosen ∙ ap (λ (k : TurnsSetUp). after_set_up s.turns k.answer k.turns) is in
+      let own : x ≡ s.turns = chosen ∙ ap (λ (k : Result SenderTurns SetUpRefusal). result_unwrap_or k s.turns) is in
       step_goes_on refl (record { setup_is = h.setup_is; session_is = h.session_is; turns_are = subst (λ (u : SenderTurns). TurnsHeld u m.turns) (sym own) h.turns_are; edition_is = h.edition_is }) printed
 
   pub settled_step : (k : ℕ) → r ≡ set_up_to (set_up k) → Prints before (Some 0) (set_up_line (set_up k)) after p

@@ -3,8 +3,6 @@ use Rattle.std.specs.Prelude.{◌≤◌, ◌≡◌}
 use Rattle.std.proofs.Math.Option.{Option, none, some}
 use Rattle.spec_turns.specs.Turns.{Turns, senders, most_senders}
 use Rattle.session_turns.specs.declared.SenderTurns.{SenderTurns}
-use Rattle.session_turns.specs.declared.SetUpAnswer.{SetUpAnswer}
-use Rattle.session_turns.specs.declared.SetUpAnswer.TheVariants.{Made, Refused}
 use Rattle.session_turns.specs.Meaning.{turns_to, fresh_turns}
 
 -- the senders' flags, with false behind them; without senders, the struct of none
@@ -19,8 +17,3 @@ FewSenders (some t) = (1 ≤ senders t) × (senders t ≤ most_senders)
 pub record TurnsHeld (s : SenderTurns) (o : Option Turns) : Type 0 where
   pub are : s ≡ held_turns o
   pub few : FewSenders o
-
--- the turns that were made, or the own ones where none were
-unfoldable pub after_set_up : SenderTurns → SetUpAnswer → SenderTurns → SenderTurns
-after_set_up own Made made = made
-after_set_up own (Refused r) made = own

@@ -5,36 +5,20 @@ ghost use Rattle.spec_turns.specs.Turns.{Turns, set_up};
 ghost use Rattle.spec_turns.specs.Turns as model;
 ghost use Rattle.spec_replay.specs.Replay.{State, asked, asked_turns, settled, registered, turned};
 ghost use Rattle.session_lifecycle.specs.Meaning.{cursor_of};
-ghost use Rattle.script_calls.specs.TurnsHeld.{after_set_up};
 ghost use Rattle.script_calls.specs.ReplayHolds.{ReplayHolds, ReplayStepped};
 
 use crate::state;
 use crate::state::{ReplayState, ReplayStep};
 use session_lifecycle::state::ProjectionReplayCursor;
-use session_turns::{SenderTurns, SetUpAnswer};
-
-// The turns that were made, or the own ones where none were.
-fn after_set_up(own: SenderTurns, answer: SetUpAnswer, made: SenderTurns) -> SenderTurns
-    ensures { result ≡ after_set_up own answer made }
-{
-    match answer {
-        SetUpAnswer::Made => made,
-        SetUpAnswer::Refused(_) => own,
-    }
-}
+use session_turns::SenderTurns;
 
 // A new circle of senders; a refused one leaves the circle before it as it was.
 pub fn set_up(state: ReplayState, senders: u64, out: &mut [u8]) -> ReplayStep
     ensures { (m : State) → ReplayHolds state m → ReplayStepped state out.old out.new result (settled m (set_up senders)) }
 {
-    let own = state.turns;
-    let step = SenderTurns::new(senders as usize);
-    let answer = step.answer;
-    let start = Some(0);
-    let printed = script_answers::turns::print_set_up(out, start, answer);
-    let made = step.turns;
-    let after = after_set_up(own, answer, made);
-    let next = state::with_turns(state, after);
+    let made = SenderTurns::new(senders as usize);
+    let printed = script_answers::turns::print_set_up(out, Some(0), made);
+    let next = state::with_turns(state, made.unwrap_or(state.turns));
     ReplayStep {
         state: next,
         printed,

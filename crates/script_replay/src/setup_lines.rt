@@ -19,8 +19,7 @@ use script_parser::SetupLine;
 use session_lifecycle::state::ShellLifecycleLimits;
 use session_turns::SenderTurns;
 
-// The state before the first line: no limits, no anchors, no session and no senders, and sets of the first edition. What stands for none is what a creation gives that is
-// refused, and likewise a set-up of senders.
+// The state before the first line: no limits, no anchors, no session and no senders, and sets of the first edition. What stands for no session is what a creation gives that is refused.
 pub fn start() -> ReplayState
     ensures { ReplayHolds result replay.start }
 {
@@ -41,13 +40,11 @@ pub fn start() -> ReplayState
         &[],
     );
     let session = refused.session;
-    let unmade = SenderTurns::new(0);
-    let turns = unmade.turns;
     ReplayState {
         setup,
         exists: false,
         session,
-        turns,
+        turns: SenderTurns::none(),
         edition: ProjectionPatchEdition::V1,
     }
 }
@@ -104,7 +101,7 @@ pub(crate) fn in_edition(state: ReplayState, edition: ProjectionPatchEdition) ->
         setup,
         exists: state.exists,
         session,
-        turns,
+        turns: SenderTurns::none(),
         edition,
     };
     ReplayStep {

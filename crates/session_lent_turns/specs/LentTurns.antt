@@ -1,17 +1,12 @@
 -- Turns in eleven lent numbers: how many senders there are, of each of eight whether it waits, and who was last named.
-use Rattle.std.specs.Prelude.{ℕ, ◌≡◌, Bool, true, false, not, List, [], ◌∷◌, eqb, length, get_or, if◌then◌else◌}
+use Rattle.std.specs.Prelude.{ℕ, ◌≡◌, Bool, true, false, not, List, [], ◌∷◌, eqb, length, get_or, if◌then◌else◌, Option, Some, None, Result, Ok, Err}
 use Rattle.spec_session.specs.Session.{Cursor}
 use Rattle.spec_turns.specs.Turns as model
 use Rattle.session_turns.specs.Meaning.{set_up_to, registration_to, turn_taken_to, turns_of}
-use Rattle.session_turns.specs.declared.NamedSender.{NamedSender}
-use Rattle.session_turns.specs.declared.NamedSender.TheVariants.{Nobody, Sender}
 use Rattle.session_turns.specs.declared.SenderTurns.{SenderTurns}
-use Rattle.session_turns.specs.declared.SetUpAnswer.{SetUpAnswer}
-use Rattle.session_turns.specs.declared.SetUpAnswer.TheVariants as set-up
-use Rattle.session_turns.specs.declared.RegisterAnswer.{RegisterAnswer}
-use Rattle.session_turns.specs.declared.RegisterAnswer.TheVariants as register
-use Rattle.session_turns.specs.declared.TurnAnswer.{TurnAnswer}
-use Rattle.session_turns.specs.declared.TurnAnswer.TheVariants as turn
+use Rattle.session_turns.specs.declared.SetUpRefusal.{SetUpRefusal}
+use Rattle.session_turns.specs.declared.RegisterRefusal.{RegisterRefusal}
+use Rattle.session_turns.specs.declared.Turn.{Turn}
 use Rattle.session_lent_turns.specs.declared.LentSetUp.{LentSetUp}
 use Rattle.session_lent_turns.specs.declared.LentSetUp.TheVariants as lent-set-up
 use Rattle.session_lent_turns.specs.declared.LentRegistration.{LentRegistration}
@@ -30,8 +25,8 @@ abbrev pub waits_at : List ℕ → ℕ → Bool
 waits_at t i = not (eqb (get_or t i 0) 0)
 
 -- 0 is nobody
-unfoldable pub named_at : ℕ → ℕ → NamedSender
-named_at kind sender = if eqb kind 0 then Nobody else Sender sender
+unfoldable pub named_at : ℕ → ℕ → Option ℕ
+named_at kind sender = if eqb kind 0 then None else Some sender
 
 abbrev pub turns_at : List ℕ → SenderTurns
 turns_at t = record {
@@ -46,13 +41,13 @@ abbrev pub turn_flag : Bool → ℕ
 turn_flag false = 0
 turn_flag true = 1
 
-abbrev pub named_kind : NamedSender → ℕ
-named_kind Nobody = 0
-named_kind (Sender s) = 1
+abbrev pub named_kind : Option ℕ → ℕ
+named_kind None = 0
+named_kind (Some s) = 1
 
-abbrev pub named_number : NamedSender → ℕ
-named_number Nobody = 0
-named_number (Sender s) = s
+abbrev pub named_number : Option ℕ → ℕ
+named_number None = 0
+named_number (Some s) = s
 
 abbrev pub waiting_flag : SenderTurns → ℕ → ℕ
 waiting_flag t i = turn_flag (get_or t.waiting i false)
@@ -80,18 +75,22 @@ pub record TurnsCall {A B : Type 0} (noTurns : A) (answered : B → A) (t : List
   pub eleven : length t ≡ turns_numbers → (r ≡ answered answer) × (t' ≡ left)
 
 -- turns that were made, or what stood there
-abbrev pub set_up_left : List ℕ → SetUpAnswer → SenderTurns → List ℕ
-set_up_left t set-up.Made next = turn_numbers next
-set_up_left t (set-up.Refused f) next = t
+abbrev pub set_up_left : List ℕ → Result SenderTurns SetUpRefusal → List ℕ
+set_up_left t (Ok next) = turn_numbers next
+set_up_left t (Err f) = t
+
+abbrev pub set_up_answered : Result SenderTurns SetUpRefusal → Result (Unit {0}) SetUpRefusal
+set_up_answered (Ok next) = Ok tt
+set_up_answered (Err f) = Err f
 
 abbrev pub SetUpCall : ℕ → (t : List ℕ) → LentSetUp → List ℕ → Type 0
 SetUpCall senders t r t' =
     let made = set_up_to (model.set_up senders) in
-    TurnsCall lent-set-up.NoTurns lent-set-up.Answered t made.answer (set_up_left t made.answer made.turns) r t'
+    TurnsCall lent-set-up.NoTurns lent-set-up.Answered t (set_up_answered made) (set_up_left t made) r t'
 
-abbrev pub register_left : List ℕ → RegisterAnswer → SenderTurns → List ℕ
-register_left t register.Registered next = turn_numbers next
-register_left t (register.Refused f) next = t
+abbrev pub register_left : List ℕ → Result (Unit {0}) RegisterRefusal → SenderTurns → List ℕ
+register_left t (Ok u) next = turn_numbers next
+register_left t (Err f) next = t
 
 abbrev pub RegisterCall : ℕ → (t : List ℕ) → LentRegistration → List ℕ → Type 0
 RegisterCall sender t r t' =
@@ -99,9 +98,9 @@ RegisterCall sender t r t' =
     TurnsCall lent-registration.NoTurns lent-registration.Answered t done.answer (register_left t done.answer done.turns) r t'
 
 -- with none waiting nothing moves
-abbrev pub turn_left : List ℕ → TurnAnswer → SenderTurns → List ℕ
-turn_left t turn.Nobody next = t
-turn_left t (turn.Turn s n) next = turn_numbers next
+abbrev pub turn_left : List ℕ → Option Turn → SenderTurns → List ℕ
+turn_left t None next = t
+turn_left t (Some n) next = turn_numbers next
 
 abbrev pub TurnCall : Cursor → (t : List ℕ) → LentTurn → List ℕ → Type 0
 TurnCall cursor t r t' =

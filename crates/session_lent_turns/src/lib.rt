@@ -6,18 +6,18 @@ ghost use Rattle.session_lifecycle.specs.Meaning.{cursor_of};
 ghost use Rattle.session_lent_turns.specs.LentTurns.{turns_numbers, named_at, turns_at, turn_flag, named_kind, named_number, turn_numbers, set_up_left, register_left, turn_left, SetUpCall, RegisterCall, TurnCall};
 
 use session_lifecycle::state::ProjectionReplayCursor;
-use session_turns::{NamedSender, RegisterAnswer, SenderTurns, SetUpAnswer, TurnAnswer};
+use session_turns::{RegisterRefusal, SenderTurns, SetUpRefusal, Turn};
 
 // How many numbers tell the turns.
 pub const NUMBERS: usize = 11;
 
-fn named_at(kind: u64, sender: u64) -> NamedSender
+fn named_at(kind: u64, sender: u64) -> Option<usize>
     ensures { result ≡ named_at kind sender }
 {
     if kind == 0 {
-        return NamedSender::Nobody;
+        return None;
     }
-    NamedSender::Sender(sender as usize)
+    Some(sender as usize)
 }
 
 // The turns that the numbers tell.
@@ -51,21 +51,21 @@ fn flag(waits: bool) -> u64
     0
 }
 
-fn named_kind(last: NamedSender) -> u64
+fn named_kind(last: Option<usize>) -> u64
     ensures { result ≡ named_kind last }
 {
     match last {
-        NamedSender::Nobody => 0,
-        NamedSender::Sender(_) => 1,
+        None => 0,
+        Some(_) => 1,
     }
 }
 
-fn named_number(last: NamedSender) -> u64
+fn named_number(last: Option<usize>) -> u64
     ensures { result ≡ named_number last }
 {
     match last {
-        NamedSender::Nobody => 0,
-        NamedSender::Sender(sender) => sender as u64,
+        None => 0,
+        Some(sender) => sender as u64,
     }
 }
 
@@ -92,31 +92,20 @@ fn store_turns(turns: SenderTurns, numbers: &mut [u64])
 // What a call answers, or that the slice has not eleven numbers.
 #[derive(Drop)]
 pub enum LentSetUp {
-    Answered(SetUpAnswer),
+    Answered(Result<(), SetUpRefusal>),
     NoTurns,
 }
 
 #[derive(Drop)]
 pub enum LentRegistration {
-    Answered(RegisterAnswer),
+    Answered(Result<(), RegisterRefusal>),
     NoTurns,
 }
 
 #[derive(Drop)]
 pub enum LentTurn {
-    Answered(TurnAnswer),
+    Answered(Option<Turn>),
     NoTurns,
-}
-
-// Stores turns that were made.
-fn keep_set_up(answer: SetUpAnswer, turns: SenderTurns, numbers: &mut [u64])
-    requires { length numbers.old ≡ turns_numbers }
-    ensures { numbers.new ≡ set_up_left numbers.old answer turns }
-{
-    match answer {
-        SetUpAnswer::Made => store_turns(turns, numbers),
-        SetUpAnswer::Refused(_) => (),
-    }
 }
 
 // One to eight senders, of whom nobody waits; a refusal leaves every number.
@@ -126,21 +115,23 @@ pub fn set_up(numbers: &mut [u64], senders: usize) -> LentSetUp
     if numbers.len() != NUMBERS {
         return LentSetUp::NoTurns;
     }
-    let made = SenderTurns::new(senders);
-    let answer = made.answer;
-    let turns = made.turns;
-    keep_set_up(answer, turns, numbers);
-    LentSetUp::Answered(answer)
+    match SenderTurns::new(senders) {
+        Ok(turns) => {
+            store_turns(turns, numbers);
+            LentSetUp::Answered(Ok(()))
+        }
+        Err(refusal) => LentSetUp::Answered(Err(refusal)),
+    }
 }
 
 // Stores turns in which one more waits.
-fn keep_registration(answer: RegisterAnswer, turns: SenderTurns, numbers: &mut [u64])
+fn keep_registration(answer: Result<(), RegisterRefusal>, turns: SenderTurns, numbers: &mut [u64])
     requires { length numbers.old ≡ turns_numbers }
     ensures { numbers.new ≡ register_left numbers.old answer turns }
 {
     match answer {
-        RegisterAnswer::Registered => store_turns(turns, numbers),
-        RegisterAnswer::Refused(_) => (),
+        Ok(()) => store_turns(turns, numbers),
+        Err(_) => (),
     }
 }
 
@@ -160,16 +151,13 @@ pub fn register(numbers: &mut [u64], sender: usize) -> LentRegistration
 }
 
 // Stores turns of which one was spent.
-fn keep_turn(answer: TurnAnswer, turns: SenderTurns, numbers: &mut [u64])
+fn keep_turn(answer: Option<Turn>, turns: SenderTurns, numbers: &mut [u64])
     requires { length numbers.old ≡ turns_numbers }
     ensures { numbers.new ≡ turn_left numbers.old answer turns }
 {
     match answer {
-        TurnAnswer::Nobody => (),
-        TurnAnswer::Turn {
-            sender: _,
-            number: _,
-        } => store_turns(turns, numbers),
+        None => (),
+        Some(_) => store_turns(turns, numbers),
     }
 }
 

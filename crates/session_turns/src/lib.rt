@@ -5,7 +5,7 @@ ghost use Rattle.std.specs.Prelude.{◌≡◌, false, min, length, get_or};
 ghost use Rattle.spec_lists.specs.Options.{optional_of};
 ghost use Rattle.spec_turns.specs.Turns.{most_senders, set_up_number, wrong_sender_count, set_up, register_number, after, first_asked, first_waiting, next_sender, number_after};
 ghost use Rattle.session_lifecycle.specs.Meaning.{cursor_of};
-ghost use Rattle.session_turns.specs.Meaning.{turns_of, set_up_to, register_refusal_of, Registers, TakesTurn};
+ghost use Rattle.session_turns.specs.Meaning.{turns_of, fresh_turns, set_up_to, register_refusal_of, Registers, TakesTurn};
 
 use session_lifecycle::state::ProjectionReplayCursor;
 
@@ -155,11 +155,24 @@ impl SenderTurns {
         if senders < 1 || SenderTurns::MOST_SENDERS < senders {
             return Err(SetUpRefusal::WrongSenderCount);
         }
-        Ok(SenderTurns {
+        Ok(SenderTurns::fresh(senders))
+    }
+
+    // The turns of no senders, which stand where none were set up.
+    pub fn none() -> SenderTurns
+        ensures { result ≡ fresh_turns 0 }
+    {
+        SenderTurns::fresh(0)
+    }
+
+    fn fresh(senders: usize) -> SenderTurns
+        ensures { result ≡ fresh_turns senders }
+    {
+        SenderTurns {
             senders,
             waiting: [false; SenderTurns::MOST_SENDERS],
             last: None,
-        })
+        }
     }
 
     // The sender waits from now on. A number out of the range is refused, then a sender that waits already.

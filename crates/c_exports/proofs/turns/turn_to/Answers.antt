@@ -4,8 +4,8 @@ use Rattle.c_exports.specs.Turns.{turn_to}
 use borrow.Author.Rules.{rules}
 use Rattle.c_exports.proofs.turns.turn_to.Goals as goal
 
-pub returns-in-Nobody : goal.returns-in-Nobody
-returns-in-Nobody c = ap turn_to (sym c.in-Nobody.is)
+pub returns-in-None : goal.returns-in-None
+returns-in-None c = ap turn_to (sym c.in-None.is)
 
-pub returns-in-Turn : goal.returns-in-Turn
-returns-in-Turn c = ap turn_to (sym c.in-Turn.is)
+pub returns-in-Some : goal.returns-in-Some
+returns-in-Some c = ap turn_to (sym c.in-Some.is)

@@ -7,20 +7,21 @@ use Rattle.spec_decimal.specs.Decimal.{decimal}
 use Rattle.spec_listing.specs.Listing.{fields}
 use Rattle.spec_replay.specs.Answers.{register_line}
 use Rattle.bytes_printer.proofs.PrintsLaws.{prints_same}
-use Rattle.session_turns.specs.declared.RegisterAnswer.{RegisterAnswer}
+use Rattle.session_turns.specs.declared.RegisterRefusal.{RegisterRefusal}
+use Rattle.std.specs.Prelude.{Result}
 use Rattle.script_answers.specs.TurnAnswers.{register_answer_of}
 use Rattle.script_answers.proofs.turns.print_registration.Goals as goal
 
-abbrev line : RegisterAnswer → List ℕ
+abbrev line : Result (Unit {0}) RegisterRefusal → List ℕ
 line x = register_line (register_answer_of x)
 
-pub returns-in-Registered : goal.returns-in-Registered
+pub returns-in-Ok : goal.returns-in-Ok
 unfolding register_line
-returns-in-Registered c =
-    prints_same (sym (ap line c.in-Registered.is)) c.print_number_line.ensures
+returns-in-Ok c =
+    prints_same (sym (ap line c.in-Ok.is)) c.print_number_line.ensures
 
-pub returns-in-Refused : goal.returns-in-Refused
+pub returns-in-Err : goal.returns-in-Err
 unfolding register_line
-returns-in-Refused c =
+returns-in-Err c =
     let number = ap (λ (n : ℕ). 74 ∷ fields (decimal n ∷ [])) c.number.ensures in
-    prints_same (number ∙ sym (ap line c.in-Refused.is)) c.print_number_line-in-Refused.ensures
+    prints_same (number ∙ sym (ap line c.in-Err.is)) c.print_number_line-in-Err.ensures

@@ -9,11 +9,11 @@ use Rattle.bytes_printer.proofs.PrintsLaws.{prints_same}
 use Rattle.script_answers.proofs.SetUps.{set_up_line_lem, no_set_up_line}
 use Rattle.script_answers.proofs.turns.print_set_up.Goals as goal
 
-pub returns-in-Made : goal.returns-in-Made
-returns-in-Made c =
-    λ made is. prints_same (set_up_line_lem made (sym c.in-Made.is ∙ is)) c.print_number_line.ensures
+pub returns-in-Ok : goal.returns-in-Ok
+returns-in-Ok c =
+    λ made is. prints_same (set_up_line_lem made _ (sym c.in-Ok.is ∙ is)) c.print_number_line.ensures
 
-pub returns-in-Refused : goal.returns-in-Refused
-returns-in-Refused c =
+pub returns-in-Err : goal.returns-in-Err
+returns-in-Err c =
     let number = ap (λ (n : ℕ). 74 ∷ fields (decimal n ∷ [])) c.number.ensures in
-    λ made is. prints_same (number ∙ no_set_up_line made _ (sym c.in-Refused.is ∙ is)) c.print_number_line-in-Refused.ensures
+    λ made is. prints_same (number ∙ no_set_up_line made _ (sym c.in-Err.is ∙ is)) c.print_number_line-in-Err.ensures

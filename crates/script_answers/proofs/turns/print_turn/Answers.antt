@@ -6,19 +6,20 @@ use borrow.Author.Rules.{rules}
 use Rattle.spec_listing.specs.Listing.{fields}
 use Rattle.spec_replay.specs.Answers.{turn_line}
 use Rattle.bytes_printer.proofs.PrintsLaws.{◌⨾◌, prints_same}
-use Rattle.session_turns.specs.declared.TurnAnswer.{TurnAnswer}
+use Rattle.session_turns.specs.declared.Turn.{Turn}
+use Rattle.std.specs.Prelude.{Option}
 use Rattle.session_turns.specs.Runs.{turn_answer_of}
 use Rattle.script_answers.proofs.turns.print_turn.Goals as goal
 
-abbrev line : TurnAnswer → List ℕ
+abbrev line : Option Turn → List ℕ
 line x = turn_line (turn_answer_of x)
 
-pub returns-in-Nobody : goal.returns-in-Nobody
+pub returns-in-None : goal.returns-in-None
 unfolding turn_line fields
-returns-in-Nobody c =
-    prints_same (sym (ap line c.in-Nobody.is)) (c.print_byte-letter.ensures ⨾ c.print_field_bytes-word.ensures ⨾ c.print_newline.ensures)
+returns-in-None c =
+    prints_same (sym (ap line c.in-None.is)) (c.print_byte-letter.ensures ⨾ c.print_field_bytes-word.ensures ⨾ c.print_newline.ensures)
 
-pub returns-in-Turn : goal.returns-in-Turn
+pub returns-in-Some : goal.returns-in-Some
 unfolding turn_line fields
-returns-in-Turn c =
-    prints_same (sym (ap line c.in-Turn.is)) (c.print_byte-letter.ensures ⨾ c.print_field_u64-named.ensures ⨾ c.print_field_u64-numbered.ensures ⨾ c.print_newline-in-Turn.ensures)
+returns-in-Some c =
+    prints_same (sym (ap line c.in-Some.is)) (c.print_byte-letter.ensures ⨾ c.print_field_u64-named.ensures ⨾ c.print_field_u64-numbered.ensures ⨾ c.print_newline-in-Some.ensures)

@@ -1,6 +1,4 @@
 -- `script_calls::turns::set_up` meets its contract: the new turns take the place of the own ones, or these stay.
-use mathlib.Core.Path.{ap}
-use Rattle.session_turns.specs.declared.TurnsSetUp.{TurnsSetUp}
 use Rattle.script_calls.specs.TurnSteps.{settled_step}
 use borrow.Author.Rules.{rules}
 use Rattle.script_calls.proofs.turns.set_up.Goals as goal
@@ -8,4 +6,4 @@ use Rattle.script_calls.proofs.turns.set_up.Goals as goal
 pub returns : goal.returns
 returns c =
     λ m h. rw c.with_turns-next.ensures
-    (settled_step c.args.state m h c.new-step.result c.after_set_up-after.result c.after_set_up-after.ensures _ _ _ c.args.senders c.new-step.ensures (c.print_set_up-printed.ensures _ (ap (λ (k : TurnsSetUp). k.answer) c.new-step.ensures)))
+    (settled_step c.args.state m h c.new-made.result c.unwrap_or.result c.unwrap_or.ensures _ _ _ c.args.senders c.new-made.ensures (c.print_set_up-printed.ensures _ c.new-made.ensures))

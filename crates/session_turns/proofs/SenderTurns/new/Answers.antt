@@ -1,6 +1,7 @@
 -- `SenderTurns::new` meets its contract.
 use native.Mathlib.Omega.{arith}
-use Rattle.session_turns.specs.Meaning.{fresh_turns}
+use Rattle.std.specs.Prelude.{Ok}
+use Rattle.std.proofs.Common.{ap, ◌∙◌}
 use Rattle.session_turns.specs.MeaningLaws.{sets_up, refuses_none, refuses_many}
 use Rattle.session_turns.proofs.SenderTurns.new.Goals as goal
 use Rattle.session_turns.proofs.SenderTurns.new.Goals.{then-senders-lt1-via-then-senders-lt1, then-senders-lt1-via-else-senders-lt1+then-senders-gt-MOST_SENDERS}
@@ -13,5 +14,4 @@ returns-then-senders-lt1 c =
     ]
 
 pub returns : goal.returns
-unfolding fresh_turns
-returns c = sets_up _ (omega arith) (omega arith)
+returns c = ap Ok c.fresh.ensures ∙ sets_up _ (omega arith) (omega arith)
