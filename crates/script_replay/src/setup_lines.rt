@@ -101,7 +101,7 @@ pub(crate) fn in_edition(state: ReplayState, edition: ProjectionPatchEdition) ->
         setup,
         exists: state.exists,
         session,
-        turns: SenderTurns::none(),
+        turns,
         edition,
     };
     ReplayStep {
