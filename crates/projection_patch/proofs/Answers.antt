@@ -1,55 +1,17 @@
--- What a callee answered of a position, as the readers of spec_patch have it: a tag and the reader that it picks, and an answer taken apart.
+-- What a callee answered of a position, as the readers of spec_patch have it: an answer taken apart.
 use Prim.Native.Nat.{ℕ, ◌+◌, ◌-◌, ◌≤◌, ◌<◌}
 use mathlib.Core.Path.{◌≡◌, refl, sym, ap, ap₂, ◌∙◌}
-use mathlib.Core.List.{List}
-use mathlib.Core.Bool.{Bool}
+use mathlib.Core.List.{List, [], ◌∷◌}
 use native.Mathlib.Omega.{arith}
-use lib.ListN.{length, get_or, drop, length-append}
+use lib.ListN.{length, drop, length-append}
+use Rattle.std.specs.Prelude as code
 use Rattle.spec_lists.specs.Bytes.{Bytes}
-use Rattle.spec_patch.specs.Edition.{Edition}
-use Rattle.spec_patch.specs.Reader.{Fault, Result, read, refused, malformed, Reader, followed, byte}
-use Rattle.spec_patch.specs.Read.{read_optional, read_availability, read_value_by, read_operation_by}
-use Rattle.spec_patch.proofs.Codec.{Codec, suffix}
-use Rattle.spec_patch.proofs.ReadLaws.{optional_codec, availability_codec, value_codec_by, operation_codec_by}
-use Rattle.projection_patch.specs.Meaning.{value_to, availability_to, operation_to}
-use Rattle.projection_patch.specs.ReadAnswers.{fault_to, answer, anywhere, optional_to, optional_answer, availability_answer, value_answer, operation_answer}
-use Rattle.projection_patch.specs.declared.patch.ProjectionNodeAvailability.{ProjectionNodeAvailability}
-use Rattle.projection_patch.specs.declared.patch.ProjectionPatchValue.{ProjectionPatchValue}
+use Rattle.spec_patch.specs.Reader.{Fault, Result, read, refused, Reader, onward, followed, pair, byte}
+use Rattle.spec_patch.specs.Read.{read_u64}
+use Rattle.spec_patch.proofs.Codec.{Codec, never, onward_read, suffix, pair_codec}
+use Rattle.spec_patch.proofs.ReadLaws.{u64_codec}
+use Rattle.projection_patch.specs.ReadAnswers.{fault_to, answer, plain}
 use Rattle.projection_patch.specs.declared.read_values.ProjectionPatchReadFault.{ProjectionPatchReadFault}
-use Rattle.projection_patch.specs.declared.read_values.OptionalNumber.{OptionalNumber}
-use Rattle.projection_patch.specs.declared.read_values.CountRead.TheVariants as count-read
-use Rattle.projection_patch.specs.declared.read_values.OptionalRead.{OptionalRead}
-use Rattle.projection_patch.specs.declared.read_values.OptionalRead.TheVariants as optional-read
-use Rattle.projection_patch.specs.declared.read_values.AvailabilityRead.{AvailabilityRead}
-use Rattle.projection_patch.specs.declared.read_values.AvailabilityRead.TheVariants as availability-read
-use Rattle.projection_patch.specs.declared.read_values.ValueRead.{ValueRead}
-use Rattle.projection_patch.specs.declared.read_values.ValueRead.TheVariants as value_read
-use Rattle.projection_patch.specs.declared.patch.ProjectionPatchOperation.{ProjectionPatchOperation}
-use Rattle.projection_patch.specs.declared.read_operations.OperationRead.{OperationRead}
-use Rattle.projection_patch.specs.declared.read_operations.OperationRead.TheVariants as operation-read
-use Rattle.projection_patch.proofs.At.{byte_at, no_byte}
-
--- ---- a tag
-
-module _ {A : Type 0} (f : ℕ → Reader A) (l : List ℕ) (at : ℕ) where
-  after_tag : (t : ℕ) → at < length l → get_or l at 0 ≡ t → followed byte f (drop at l) ≡ f t (drop (at + 1) l)
-  after_tag t h e = rw (byte_at l at h, e)
-
-  -- whatever is told of a reading is told of the whole
-  pub picked : {B : Type 0} (tell : Result A → B) (t : ℕ) → at < length l → get_or l at 0 ≡ t → tell (f t (drop (at + 1) l)) ≡ tell (followed byte f (drop at l))
-  picked tell t h e = ap tell (sym (after_tag t h e))
-
-  pub no_tag : length l ≤ at → followed byte f (drop at l) ≡ refused malformed
-  no_tag h = rw (no_byte l at h)
-
--- ---- an answer taken apart: once for every enum that has a reading and a refusal
-
--- what the constructors of such an enum tell
-pub record ToldReading {X B : Type 0} (reading : X → ℕ → B) (refusal : ProjectionPatchReadFault → B) : Type 0 where
-  pub value : (x y : X) (m n : ℕ) → reading x m ≡ reading y n → x ≡ y
-  pub next : (x y : X) (m n : ℕ) → reading x m ≡ reading y n → m ≡ n
-  pub reason : (f g : ProjectionPatchReadFault) → refusal f ≡ refusal g → f ≡ g
-  pub apart : (x : X) (m : ℕ) (f : ProjectionPatchReadFault) → reading x m ≡ refusal f → ⊥
 
 -- the reading behind an answer at a position: what was read, and that the bytes left are those from the next position on
 pub record Got {A X : Type 0} (p : Reader A) (to : ℕ → A → X) (l : List ℕ) (at : ℕ) (x : X) (end : ℕ) : Type 0 where
@@ -64,46 +26,30 @@ pub record NotGot {A : Type 0} (p : Reader A) (l : List ℕ) (at : ℕ) (f : Pro
   pub is : p (drop at l) ≡ refused fault
   pub same : fault_to fault ≡ f
 
-module _ {A X B : Type 0} {e : A → List ℕ} {Good : A → Type 0} {p : Reader A} {reading : X → ℕ → B} {refusal : ProjectionPatchReadFault → B} (to : ℕ → A → X) (codec : Codec e Good p) (told : ToldReading reading refusal) (l : List ℕ) (at : ℕ) (r : B) (ensured : r ≡ answer to reading refusal (length l) (p (drop at l))) where
-  pub got : Bytes l → (x : X) (end : ℕ) → r ≡ reading x end → Got p to l at x end
+module _ {A X : Type 0} {e : A → List ℕ} {Good : A → Type 0} {p : Reader A} (to : ℕ → A → X) (codec : Codec e Good p) (l : List ℕ) (at : ℕ) (r : code.Result (X × ℕ) ProjectionPatchReadFault) (ensured : r ≡ answer to (length l) (p (drop at l))) where
+  pub got : Bytes l → (x : X) (end : ℕ) → r ≡ code.Ok (x, end) → Got p to l at x end
   got h x end q = pick (p (drop at l)) refl (sym ensured ∙ q)
     where
-      pick : (s : Result A) → p (drop at l) ≡ s → answer to reading refusal (length l) s ≡ reading x end → Got p to l at x end
-      pick (refused c) is t = absurd (told.apart x end (fault_to c) (sym t))
+      pick : (s : Result A) → p (drop at l) ≡ s → answer to (length l) s ≡ code.Ok (x, end) → Got p to l at x end
+      pick (refused c) is t = absurd (let z : ◌≡◌ {A = ℕ} 0 1 = cc t in omega arith)
       pick (read a rest) is t =
-          let here : length l - length rest ≡ end = told.next (to (length l - length rest) a) x (length l - length rest) end t in
+          let both : ◌≡◌ {A = X × ℕ} (to (length l - length rest) a, length l - length rest) (x, end) = cc t in
+          let here : length l - length rest ≡ end = ap (λ (z : X × ℕ). z.1) both in
+          let what : to (length l - length rest) a ≡ x = ap (λ (z : X × ℕ). z.0) both in
           let left : drop end l ≡ rest = ap (λ (k : ℕ). drop k l) (sym here) ∙ suffix codec l at h a rest is in
           record {
             a = a;
             is = is ∙ ap (read a) (sym left);
-            same = ap (λ (k : ℕ). to k a) (sym here) ∙ told.value (to (length l - length rest) a) x (length l - length rest) end t;
+            same = ap (λ (k : ℕ). to k a) (sym here) ∙ what;
             there = ap (λ (k : List ℕ). length l - length k) left ∙ here;
           }
 
-  pub not_got : (f : ProjectionPatchReadFault) → r ≡ refusal f → NotGot p l at f
+  pub not_got : (f : ProjectionPatchReadFault) → r ≡ code.Err f → NotGot p l at f
   not_got f q = pick (p (drop at l)) refl (sym ensured ∙ q)
     where
-      pick : (s : Result A) → p (drop at l) ≡ s → answer to reading refusal (length l) s ≡ refusal f → NotGot p l at f
-      pick (refused c) is t = record { fault = c; is = is; same = told.reason (fault_to c) f t }
-      pick (read a rest) is t = absurd (told.apart (to (length l - length rest) a) (length l - length rest) f t)
-
--- the same answer told by other constructors
-module _ {A X B C : Type 0} {reading : X → ℕ → B} {refusal : ProjectionPatchReadFault → B} (to : ℕ → A → X) (told : ToldReading reading refusal) (reading' : X → ℕ → C) (refusal' : ProjectionPatchReadFault → C) (n : ℕ) (result : Result A) {r : B} (ensured : r ≡ answer to reading refusal n result) where
-  pub retold : (x : X) (end : ℕ) → r ≡ reading x end → reading' x end ≡ answer to reading' refusal' n result
-  retold x end q = pick result (sym ensured ∙ q)
-    where
-      pick : (s : Result A) → answer to reading refusal n s ≡ reading x end → reading' x end ≡ answer to reading' refusal' n s
-      pick (refused c) t = absurd (told.apart x end (fault_to c) (sym t))
-      pick (read a rest) t =
-          let k = n - length rest in
-          ap₂ reading' (sym (told.value (to k a) x k end t)) (sym (told.next (to k a) x k end t))
-
-  pub retold_refusal : (f : ProjectionPatchReadFault) → r ≡ refusal f → refusal' f ≡ answer to reading' refusal' n result
-  retold_refusal f q = pick result (sym ensured ∙ q)
-    where
-      pick : (s : Result A) → answer to reading refusal n s ≡ refusal f → refusal' f ≡ answer to reading' refusal' n s
-      pick (refused c) t = ap refusal' (sym (told.reason (fault_to c) f t))
-      pick (read a rest) t = absurd (told.apart (to (n - length rest) a) (n - length rest) f t)
+      pick : (s : Result A) → p (drop at l) ≡ s → answer to (length l) s ≡ code.Err f → NotGot p l at f
+      pick (refused c) is t = record { fault = c; is = is; same = cc t }
+      pick (read a rest) is t = absurd (let z : ◌≡◌ {A = ℕ} 0 1 = cc t in omega arith)
 
 -- what was read takes a byte or more, and ends within the part
 module _ {A X : Type 0} {e : A → List ℕ} {Good : A → Type 0} {p : Reader A} {to : ℕ → A → X} (codec : Codec e Good p) (some' : (a : A) → 0 < length (e a)) {l : List ℕ} (all : Bytes l) where
@@ -112,69 +58,58 @@ module _ {A X : Type 0} {e : A → List ℕ} {Good : A → Type 0} {p : Reader A
       let long : length l ≡ length (e g.a) + length (drop end l) = ap length (codec.only all g.a (drop end l) g.is).1 ∙ length-append (e g.a) (drop end l) in
       (omega (arith, some' g.a, g.there), omega (arith, g.there))
 
--- ---- each of the enums
+-- the same of a value that is the same in the code
+pub record GotPlain {A : Type 0} (p : Reader A) (l : List ℕ) (at : ℕ) (a : A) (end : ℕ) : Type 0 where
+  pub is : p (drop at l) ≡ read a (drop end l)
+  pub there : length l - length (drop end l) ≡ end
 
-pub count_told : ToldReading count-read.Read count-read.Refused
-count_told = record {
-  value = λ x y m n e. cc;
-  next = λ x y m n e. cc;
-  reason = λ f g e. cc;
-  apart = λ x m f e. let z : ◌≡◌ {A = ℕ} 0 1 = cc in omega arith;
-}
+pub plain_got : {A : Type 0} {e : A → List ℕ} {Good : A → Type 0} {p : Reader A} (codec : Codec e Good p) (l : List ℕ) (at : ℕ) (r : code.Result (A × ℕ) ProjectionPatchReadFault)
+    → r ≡ answer plain (length l) (p (drop at l)) → Bytes l → (a : A) (end : ℕ) → r ≡ code.Ok (a, end) → GotPlain p l at a end
+plain_got codec l at r ensured h a end q =
+    let g = got plain codec l at r ensured h a end q in
+    record { is = g.is ∙ ap (λ b. read b (drop end l)) g.same; there = g.there }
 
-optional_told : ToldReading optional-read.Read optional-read.Refused
-optional_told = record {
-  value = λ x y m n e. cc;
-  next = λ x y m n e. cc;
-  reason = λ f g e. cc;
-  apart = λ x m f e. let z : ◌≡◌ {A = ℕ} 0 1 = cc in omega arith;
-}
+-- what is missing of two numbers, whatever follows them
+module _ {B : Type 0} (p : Reader B) {fault : Fault} where
+  second_missing : (a : ℕ) (s : Result ℕ) → onward s (λ b rest. let t : ℕ × ℕ = (a, b) in read t rest) ≡ refused fault
+      → onward (onward s (λ b. followed p (λ c rest. let t : ℕ × B = (b, c) in read t rest))) (λ t rest. let u : ℕ × (ℕ × B) = (a, t) in read u rest) ≡ refused fault
+  second_missing a (refused c) e = cc e
+  second_missing a (read b rest) e = never (sym e)
 
-availability_told : ToldReading availability-read.Read availability-read.Refused
-availability_told = record {
-  value = λ x y m n e. cc;
-  next = λ x y m n e. cc;
-  reason = λ f g e. cc;
-  apart = λ x m f e. let z : ◌≡◌ {A = ℕ} 0 1 = cc in omega arith;
-}
+  missing : (s : Result ℕ) → onward s (λ a. followed read_u64 (λ b rest. let t : ℕ × ℕ = (a, b) in read t rest)) ≡ refused fault
+      → onward s (λ a. followed (pair read_u64 p) (λ t rest. let u : ℕ × (ℕ × B) = (a, t) in read u rest)) ≡ refused fault
+  missing (refused c) e = cc e
+  missing (read a rest) e = second_missing a (read_u64 rest) e
 
-value_told : ToldReading value_read.Read value_read.Refused
-value_told = record {
-  value = λ x y m n e. cc;
-  next = λ x y m n e. cc;
-  reason = λ f g e. cc;
-  apart = λ x m f e. let z : ◌≡◌ {A = ℕ} 0 1 = cc in omega arith;
-}
+-- two numbers, one behind the other
+pub record GotNumbers (l : List ℕ) (at x y end : ℕ) : Type 0 where
+  pub mid : List ℕ
+  pub first : read_u64 (drop at l) ≡ read x mid
+  pub second : read_u64 mid ≡ read y (drop end l)
+  pub there : length l - length (drop end l) ≡ end
 
-pub operation_told : ToldReading operation-read.Read operation-read.Refused
-operation_told = record {
-  value = λ x y m n e. cc;
-  next = λ x y m n e. cc;
-  reason = λ f g e. cc;
-  apart = λ x m f e. let z : ◌≡◌ {A = ℕ} 0 1 = cc in omega arith;
-}
+module _ (l : List ℕ) (at : ℕ) (r : code.Result ((ℕ × ℕ) × ℕ) ProjectionPatchReadFault) (ensured : r ≡ answer plain (length l) (pair read_u64 read_u64 (drop at l))) where
+  pub numbers_got : Bytes l → (x y end : ℕ) → r ≡ code.Ok ((x, y), end) → GotNumbers l at x y end
+  numbers_got h x y end q =
+      let g = plain_got (pair_codec u64_codec u64_codec) l at r ensured h (x, y) end q in
+      let one = onward_read (read_u64 (drop at l)) (λ a. followed read_u64 (λ b rest. read (a, b) rest)) (x, y) (drop end l) g.is in
+      let two = onward_read (read_u64 one.mid) (λ b rest. read (one.a, b) rest) (x, y) (drop end l) one.next in
+      let both : ◌≡◌ {A = ℕ × ℕ} (one.a, two.a) (x, y) = cc two.next in
+      let left : two.mid ≡ drop end l = cc two.next in
+      record {
+        mid = one.mid;
+        first = one.first ∙ ap (λ (a : ℕ). read a one.mid) (ap (λ (z : ℕ × ℕ). z.0) both);
+        second = two.first ∙ ap₂ (λ (b : ℕ) (rest : List ℕ). read b rest) (ap (λ (z : ℕ × ℕ). z.1) both) left;
+        there = g.there;
+      }
 
-module _ (l : List ℕ) (at : ℕ) where
-  pub optional_got : (r : OptionalRead) → r ≡ optional_answer (length l) (read_optional (drop at l)) → Bytes l → (o : OptionalNumber) (end : ℕ) → r ≡ optional-read.Read o end → Got read_optional (anywhere optional_to) l at o end
-  optional_got = got (anywhere optional_to) optional_codec optional_told l at
+  -- where they are missing, whatever follows them
+  pub numbers_refused : (f : ProjectionPatchReadFault) → r ≡ code.Err f → {B : Type 0} (p : Reader B) → NotGot (pair read_u64 (pair read_u64 p)) l at f
+  numbers_refused f q p =
+      let g = not_got plain (pair_codec u64_codec u64_codec) l at r ensured f q in
+      record { fault = g.fault; is = missing p (read_u64 (drop at l)) g.is; same = g.same }
 
-  pub no_optional : (r : OptionalRead) → r ≡ optional_answer (length l) (read_optional (drop at l)) → (f : ProjectionPatchReadFault) → r ≡ optional-read.Refused f → NotGot read_optional l at f
-  no_optional = not_got (anywhere optional_to) optional_codec optional_told l at
-
-  pub availability_got : (r : AvailabilityRead) → r ≡ availability_answer (length l) (read_availability (drop at l)) → Bytes l → (a : ProjectionNodeAvailability) (end : ℕ) → r ≡ availability-read.Read a end → Got read_availability (anywhere availability_to) l at a end
-  availability_got = got (anywhere availability_to) availability_codec availability_told l at
-
-  pub no_availability : (r : AvailabilityRead) → r ≡ availability_answer (length l) (read_availability (drop at l)) → (f : ProjectionPatchReadFault) → r ≡ availability-read.Refused f → NotGot read_availability l at f
-  no_availability = not_got (anywhere availability_to) availability_codec availability_told l at
-
-  pub value_got : (check : Bool) (ed : Edition) (r : ValueRead) → r ≡ value_answer (length l) (read_value_by check ed (drop at l)) → Bytes l → (v : ProjectionPatchValue) (end : ℕ) → r ≡ value_read.Read v end → Got (read_value_by check ed) value_to l at v end
-  value_got check ed = got value_to (value_codec_by check ed) value_told l at
-
-  pub no_value : (check : Bool) (ed : Edition) (r : ValueRead) → r ≡ value_answer (length l) (read_value_by check ed (drop at l)) → (f : ProjectionPatchReadFault) → r ≡ value_read.Refused f → NotGot (read_value_by check ed) l at f
-  no_value check ed = not_got value_to (value_codec_by check ed) value_told l at
-
-  pub operation_got : (check : Bool) (ed : Edition) (r : OperationRead) → r ≡ operation_answer (length l) (read_operation_by check ed (drop at l)) → Bytes l → (o : ProjectionPatchOperation) (end : ℕ) → r ≡ operation-read.Read o end → Got (read_operation_by check ed) operation_to l at o end
-  operation_got check ed = got operation_to (operation_codec_by check ed) operation_told l at
-
-  pub no_operation : (check : Bool) (ed : Edition) (r : OperationRead) → r ≡ operation_answer (length l) (read_operation_by check ed (drop at l)) → (f : ProjectionPatchReadFault) → r ≡ operation-read.Refused f → NotGot (read_operation_by check ed) l at f
-  no_operation check ed = not_got operation_to (operation_codec_by check ed) operation_told l at
+-- one byte is followed by those behind it
+pub behind_byte : (l : List ℕ) (b : ℕ) (rest : List ℕ) → byte l ≡ read b rest → rest ≡ drop 1 l
+behind_byte [] b rest e = never e
+behind_byte (x ∷ l) b rest e = sym (cc e)

@@ -2,22 +2,21 @@
 use Prim.Native.Nat.{ℕ, ◌+◌, ◌-◌, ◌≤◌, ◌<◌}
 use mathlib.Core.Path.{◌≡◌, refl, sym, ap, ◌∙◌}
 use mathlib.Core.List.{List}
-use mathlib.Core.Option.{Option, none, some}
+use Rattle.std.specs.Prelude as code
+use mathlib.Core.Option.{none, some}
 use native.Mathlib.Numerals.{add-one}
 use native.Mathlib.Omega.{arith}
 use lib.ListN.{length, get_or, drop, length-drop, drop_of_length-le}
 use lib.Seq.{drop-cons, drop-drop}
 use lib.Dec.{lit<}
 use lib.IntN.{ℤ}
-use Rattle.spec_patch.specs.Reader.{Fault, read, refused, malformed, Result, Reader, onward, pair, byte, number}
+use Rattle.spec_patch.specs.Reader.{read, refused, malformed, byte, number}
 use Rattle.spec_patch.specs.Read.{read_u32, read_u64, read_i64}
+use Rattle.spec_lists.specs.Options.{optional_of}
 use Rattle.bytes_wire.specs.Read.{first_number, first_signed}
 use Rattle.bytes_wire.proofs.ReadLaws as wire
-use Rattle.std.specs.Prelude as code
-use Rattle.spec_lists.specs.Options.{optional_of}
-use Rattle.projection_patch.specs.ReadAnswers.{numbers_answer}
-use Rattle.projection_patch.specs.declared.read_values.NumbersRead.{NumbersRead}
-use Rattle.projection_patch.specs.declared.read_values.NumbersRead.TheVariants as numbers-read
+use Rattle.projection_patch.specs.declared.read_values.ProjectionPatchReadFault.{ProjectionPatchReadFault}
+use Rattle.projection_patch.specs.declared.read_values.ProjectionPatchReadFault.TheVariants.{Malformed}
 
 -- the position after the first k elements
 pub position : (l : List ℕ) (k : ℕ) → k ≤ length l → length l - length (drop k l) ≡ k
@@ -68,55 +67,19 @@ module _ (l : List ℕ) (at : ℕ) where
   pub i64_short : (r : code.Option ℤ) → optional_of r ≡ first_signed (drop at l) → r ≡ code.None → read_i64 (drop at l) ≡ refused malformed
   i64_short r e f = rw (wire.signed_short_at l at (sym e ∙ ap optional_of f)).too_few
 
--- ---- two numbers, one behind the other
+-- ---- what `ok_or` makes of a number that may not be there
 
-module _ (l : List ℕ) (at : ℕ) where
-  pub record NumbersAt (x y : ℕ) : Type 0 where
-    pub room : at + 16 ≤ length l
-    pub first : read_u64 (drop at l) ≡ read x (drop (at + 8) l)
-    pub second : read_u64 (drop (at + 8) l) ≡ read y (drop (at + 16) l)
+module _ {A : Type 0} (r : code.Option A) where
+  pub there : (x : A) → code.Ok x ≡ code.ok_or r Malformed → r ≡ code.Some x
+  there x e = pick r e
+    where
+      pick : (s : code.Option A) → code.Ok x ≡ code.ok_or s Malformed → s ≡ code.Some x
+      pick (code.Some y) q = ap code.Some (sym (cc q))
+      pick code.None q = absurd (let z : ◌≡◌ {A = ℕ} 0 1 = cc q in omega arith)
 
-  both : (x y : ℕ) → some x ≡ first_number 8 (drop at l) → some y ≡ first_number 8 (drop (at + 8) l) → NumbersAt x y
-  both x y e f =
-      let one = number_here l at 8 x (lit< tt) e in
-      let two = number_here l (at + 8) 8 y (lit< tt) f in
-      let sum : at + 8 + 8 ≡ at + 16 = omega arith in
-      record {
-        room = omega (arith, two.room);
-        first = one.is;
-        second = two.is ∙ ap (λ (k : ℕ). read y (drop k l)) sum;
-      }
-
-  module _ (r : NumbersRead) (e : r ≡ numbers_answer (first_number 8 (drop at l)) (first_number 8 (drop (at + 8) l))) where
-    pub numbers_at : (x y : ℕ) → r ≡ numbers-read.Read x y → NumbersAt x y
-    numbers_at x y f = pick (first_number 8 (drop at l)) (first_number 8 (drop (at + 8) l)) refl refl (sym e ∙ f)
-      where
-        pick : (a b : Option ℕ) → first_number 8 (drop at l) ≡ a → first_number 8 (drop (at + 8) l) ≡ b → numbers_answer a b ≡ numbers-read.Read x y → NumbersAt x y
-        pick none b p q g = absurd (let z : ◌≡◌ {A = ℕ} 0 1 = cc g in omega arith)
-        pick (some a) none p q g = absurd (let z : ◌≡◌ {A = ℕ} 0 1 = cc g in omega arith)
-        pick (some a) (some b) p q g =
-            let one : some x ≡ some a = cc g in
-            let two : some y ≡ some b = cc g in
-            both x y (one ∙ sym p) (two ∙ sym q)
-
-    -- whatever follows them
-    pub numbers_missing : {B : Type 0} (p : Reader B) → r ≡ numbers-read.Short → pair read_u64 (pair read_u64 p) (drop at l) ≡ refused malformed
-    numbers_missing p s = pick (first_number 8 (drop at l)) (first_number 8 (drop (at + 8) l)) refl refl (sym e ∙ s)
-      where
-        pick : (a b : Option ℕ) → first_number 8 (drop at l) ≡ a → first_number 8 (drop (at + 8) l) ≡ b → numbers_answer a b ≡ numbers-read.Short → pair read_u64 (pair read_u64 p) (drop at l) ≡ refused malformed
-        pick none b m q g = rw (number_missing l at 8 (sym m))
-        pick (some a) none m q g = rw ((number_here l at 8 a (lit< tt) (sym m)).is, number_missing l (at + 8) 8 (sym q))
-        pick (some a) (some b) m q g = absurd (let z : ◌≡◌ {A = ℕ} 0 1 = cc g in omega arith)
-
-    -- where nothing follows
-    pub last_numbers_missing : r ≡ numbers-read.Short → pair read_u64 read_u64 (drop at l) ≡ refused malformed
-    last_numbers_missing s = pick (first_number 8 (drop at l)) (first_number 8 (drop (at + 8) l)) refl refl (sym e ∙ s)
-      where
-        pick : (a b : Option ℕ) → first_number 8 (drop at l) ≡ a → first_number 8 (drop (at + 8) l) ≡ b → numbers_answer a b ≡ numbers-read.Short → pair read_u64 read_u64 (drop at l) ≡ refused malformed
-        pick none b m q g = rw (number_missing l at 8 (sym m))
-        pick (some a) none m q g = rw ((number_here l at 8 a (lit< tt) (sym m)).is, number_missing l (at + 8) 8 (sym q))
-        pick (some a) (some b) m q g = absurd (let z : ◌≡◌ {A = ℕ} 0 1 = cc g in omega arith)
-
--- what is made of a refused reading
-pub mapped_refused : {A B : Type 0} (f : A → B) (r : Result A) {g : Fault} → r ≡ refused g → onward r (λ a rest. read (f a) rest) ≡ refused g
-mapped_refused f r e = rw e
+  pub not_there : (f : ProjectionPatchReadFault) → code.Err f ≡ code.ok_or r Malformed → (r ≡ code.None) × (Malformed ≡ f)
+  not_there f e = pick r e
+    where
+      pick : (s : code.Option A) → code.Err f ≡ code.ok_or s Malformed → (s ≡ code.None) × (Malformed ≡ f)
+      pick (code.Some y) q = absurd (let z : ◌≡◌ {A = ℕ} 0 1 = cc q in omega arith)
+      pick code.None q = (refl, sym (cc q))

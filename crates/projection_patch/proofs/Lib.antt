@@ -2,4 +2,5 @@
 pub mod At
 pub mod Answers
 pub mod Texts
+pub mod States
 pub mod Places

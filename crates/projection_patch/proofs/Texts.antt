@@ -1,68 +1,56 @@
 -- A text of a length that was read, at a position.
 use Prim.Native.Nat.{ℕ, ◌+◌, ◌-◌, ◌≤◌, ◌<◌}
 use mathlib.Core.Path.{◌≡◌, refl, sym, ap, ◌∙◌}
-use mathlib.Core.Bool.{Bool, true, false, not}
+use mathlib.Core.Bool.{Bool, true, false}
 use mathlib.Core.List.{List, []}
 use native.Mathlib.Omega.{arith}
 use borrow.Author.Tests.{le-leb, lt-leb}
 use lib.Dec.{leb}
 use lib.ListN.{length, take, drop, length-drop}
 use lib.Seq.{length-take-le, drop-drop}
-use Rattle.std.specs.Prelude.{if◌then◌else◌}
+use mathlib.Core.Logic.{◌⊎◌, inl, inr}
+use Rattle.std.specs.Prelude as code
+use Rattle.std.specs.Prelude.{Ok, Err, if◌then◌else◌}
+use Rattle.std.specs.List.{slice_range}
+use Rattle.std.specs.Option.{MatchOption, unwrap_or}
+use Rattle.std.proofs.Common.{Bor}
 use Rattle.spec_patch.specs.Sizes.{text_bytes}
 use Rattle.spec_patch.specs.TextRule.{allowed, few_characters}
 use Rattle.spec_patch.specs.Patch.{text}
 use Rattle.spec_patch.specs.Reader.{read, refused, malformed, over_capacity, mapped}
 use Rattle.spec_patch.specs.Read.{text_taken, text_body}
 use Rattle.projection_patch.specs.TextRule.{judged, judgement}
-use Rattle.projection_patch.specs.declared.text_rule.TextJudgement.TheVariants.{Fits, Malformed, ManyCharacters}
-use Rattle.projection_patch.specs.ReadAnswers.{value_answer, lent_part}
+use Rattle.projection_patch.specs.declared.text_rule.TextFault.{TextFault}
+use Rattle.projection_patch.specs.declared.text_rule.TextFault.TheVariants.{Malformed, ManyCharacters}
+use Rattle.projection_patch.specs.ReadAnswers.{text_fault, value_answer, lent_part}
 use Rattle.projection_patch.specs.declared.patch.ProjectionPatchValue.TheVariants.{Text}
-use Rattle.projection_patch.specs.declared.read_values.ValueRead.TheVariants.{Read}
 use Rattle.projection_patch.proofs.At.{position}
 
 -- what a judgement says of a text, under the rule of one that is checked
-module _ (check : Bool) (t : List ℕ) (strict : not check ≡ false) where
-  pub judged_fits : judgement t ≡ Fits → (allowed check t ≡ true) × (few_characters check t ≡ true)
-  judged_fits e = by_check check strict (pick (allowed true t) (few_characters true t) e)
+module _ (t : List ℕ) where
+  pub judged_fits : judgement t ≡ Ok tt → (allowed true t ≡ true) × (few_characters true t ≡ true)
+  judged_fits e = pick (allowed true t) (few_characters true t) e
     where
-      pick : (a b : Bool) → judged a b ≡ Fits → (a ≡ true) × (b ≡ true)
+      pick : (a b : Bool) → judged a b ≡ Ok tt → (a ≡ true) × (b ≡ true)
       pick true true q = (refl, refl)
       pick true false q = absurd (let z : ◌≡◌ {A = ℕ} 0 1 = cc q in omega arith)
       pick false b q = absurd (let z : ◌≡◌ {A = ℕ} 0 1 = cc q in omega arith)
 
-      by_check : (c : Bool) → not c ≡ false → (allowed true t ≡ true) × (few_characters true t ≡ true) → (allowed c t ≡ true) × (few_characters c t ≡ true)
-      by_check true s h = h
-      by_check false s h = absurd (let z : ◌≡◌ {A = ℕ} 0 1 = cc s in omega arith)
-
-  pub judged_malformed : judgement t ≡ Malformed → allowed check t ≡ false
-  judged_malformed e = by_check check strict (pick (allowed true t) (few_characters true t) e)
+  pub judged_malformed : judgement t ≡ Err Malformed → allowed true t ≡ false
+  judged_malformed e = pick (allowed true t) (few_characters true t) e
     where
-      pick : (a b : Bool) → judged a b ≡ Malformed → a ≡ false
+      pick : (a b : Bool) → judged a b ≡ Err Malformed → a ≡ false
       pick true true q = absurd (let z : ◌≡◌ {A = ℕ} 0 1 = cc q in omega arith)
       pick true false q = absurd (let z : ◌≡◌ {A = ℕ} 0 1 = cc q in omega arith)
       pick false b q = refl
 
-      by_check : (c : Bool) → not c ≡ false → allowed true t ≡ false → allowed c t ≡ false
-      by_check true s h = h
-      by_check false s h = absurd (let z : ◌≡◌ {A = ℕ} 0 1 = cc s in omega arith)
-
-  pub judged_many : judgement t ≡ ManyCharacters → (allowed check t ≡ true) × (few_characters check t ≡ false)
-  judged_many e = by_check check strict (pick (allowed true t) (few_characters true t) e)
+  pub judged_many : judgement t ≡ Err ManyCharacters → (allowed true t ≡ true) × (few_characters true t ≡ false)
+  judged_many e = pick (allowed true t) (few_characters true t) e
     where
-      pick : (a b : Bool) → judged a b ≡ ManyCharacters → (a ≡ true) × (b ≡ false)
+      pick : (a b : Bool) → judged a b ≡ Err ManyCharacters → (a ≡ true) × (b ≡ false)
       pick true true q = absurd (let z : ◌≡◌ {A = ℕ} 0 1 = cc q in omega arith)
       pick true false q = (refl, refl)
       pick false b q = absurd (let z : ◌≡◌ {A = ℕ} 0 1 = cc q in omega arith)
-
-      by_check : (c : Bool) → not c ≡ false → (allowed true t ≡ true) × (few_characters true t ≡ false) → (allowed c t ≡ true) × (few_characters c t ≡ false)
-      by_check true s h = h
-      by_check false s h = absurd (let z : ◌≡◌ {A = ℕ} 0 1 = cc s in omega arith)
-
--- one that is not checked may be any bytes
-pub unchecked : (check : Bool) (t : List ℕ) → not check ≡ true → (allowed check t ≡ true) × (few_characters check t ≡ true)
-unchecked true t e = absurd (let z : ◌≡◌ {A = ℕ} 0 1 = cc e in omega arith)
-unchecked false t e = (refl, refl)
 
 module _ (check : Bool) (l : List ℕ) (start n : ℕ) where
   pub body_short : length l - start < n → text_body check n (drop start l) ≡ refused malformed
@@ -91,11 +79,17 @@ module _ (check : Bool) (l : List ℕ) (start n : ℕ) where
 
       -- the text's place, told by where it ends
       pub body_placed : start ≤ length l → (allowed check (take n (drop start l)) ≡ true) × (few_characters check (take n (drop start l)) ≡ true)
-          → Read (Text start n) (start + n) ≡ value_answer (length l) (mapped text (text_body check n) (drop start l))
+          → Ok (Text start n, start + n) ≡ value_answer (length l) (mapped text (text_body check n) (drop start l))
       body_placed h u =
           let end : start + n ≤ length l = omega arith in
           let back : start + n - n ≡ start = omega arith in
           rw (taken, u.0, u.1, drop-drop n start l, position l (start + n) end, named, back)
+
+-- a text that breaks the rule
+module _ (l : List ℕ) (start n : ℕ) (room : n ≤ length l - start) (few : n ≤ text_bytes) where
+  pub body_refused : (f : TextFault) → judgement (take n (drop start l)) ≡ Err f → Err (text_fault f) ≡ value_answer (length l) (mapped text (text_body true n) (drop start l))
+  body_refused Malformed e = rw (body_bad true l start n room few (judged_malformed (take n (drop start l)) e))
+  body_refused ManyCharacters e = rw (body_many true l start n room few (judged_many (take n (drop start l)) e))
 
 -- ---- a part that is lent
 
@@ -124,3 +118,10 @@ pub lent_text : (l : List ℕ) (start len : ℕ) → start + len ≤ length l �
 lent_text l start len h =
     let size : start + len - start ≡ len = omega arith in
     sym (just_there l start (start + len) h) ∙ ap (λ (n : ℕ). take n (drop start l)) size
+
+-- what `get` lends of a set, or no bytes
+module _ (l : List ℕ) (a b : ℕ) (other : Bor (List ℕ)) (empty : other.now ≡ []) where
+  pub lent_by : (o : code.Option (Bor (List ℕ))) → MatchOption o ((b < a) ⊎ (length l < b)) (λ x. (a ≤ b) × (b ≤ length l) × (x.now ≡ slice_range l a b) × (length x.now + a ≡ b)) → (unwrap_or o other).now ≡ lent_part l a b
+  lent_by code.None (inl h) = empty ∙ none_between l a b h
+  lent_by code.None (inr h) = empty ∙ none_past l a b h
+  lent_by (code.Some x) h = h.2 ∙ just_there l a b h.1

@@ -1,16 +1,14 @@
 -- What the types of this crate stand for in spec_patch. A text is told by its place: `…Of texts` takes the bytes of the slice `texts` that
 -- is lent beside a value, and `…To end` places a text so that it ends at the position `end`.
 use Rattle.std.specs.Prelude.{ℕ, ◌-◌, List, length, take, drop}
+use Rattle.std.specs.Prelude as code
 use Rattle.std.proofs.Math.Option.{Option, none, some}
 use Rattle.spec_patch.specs.Patch as model
 use Rattle.spec_patch.specs.Edition.{Edition, v1, v2}
 use Rattle.projection_patch.specs.declared.contract_primitives.StaticNodeId.{StaticNodeId}
 use Rattle.projection_patch.specs.declared.contract_primitives.CollectionKey.{CollectionKey}
+use Rattle.projection_patch.specs.declared.contract_primitives.StaticSurfaceId.{StaticSurfaceId}
 use Rattle.projection_patch.specs.declared.binding_graph.BindingTarget.{BindingTarget}
-use Rattle.projection_patch.specs.declared.patch.OptionalSurfaceId.{OptionalSurfaceId}
-use Rattle.projection_patch.specs.declared.patch.OptionalSurfaceId.TheVariants as surface
-use Rattle.projection_patch.specs.declared.patch.OptionalKey.{OptionalKey}
-use Rattle.projection_patch.specs.declared.patch.OptionalKey.TheVariants as key
 use Rattle.projection_patch.specs.declared.patch.ProjectionPatchEdition.{ProjectionPatchEdition}
 use Rattle.projection_patch.specs.declared.patch.ProjectionPatchEdition.TheVariants.{V1, V2}
 use Rattle.projection_patch.specs.declared.patch.ProjectionPatchEnvelope.{ProjectionPatchEnvelope}
@@ -34,13 +32,13 @@ key_to k = record { 0 = k }
 abbrev pub target_to : ℕ → ℕ → BindingTarget
 target_to n s = record { node = node_to n; slot = record { 0 = s } }
 
-abbrev pub before_to : Option ℕ → OptionalKey
-before_to none = key.None
-before_to (some k) = key.Some (key_to k)
+abbrev pub before_to : Option ℕ → code.Option CollectionKey
+before_to none = code.None
+before_to (some k) = code.Some (key_to k)
 
-abbrev pub surface_to : Option ℕ → OptionalSurfaceId
-surface_to none = surface.None
-surface_to (some n) = surface.Some (record { 0 = n })
+abbrev pub surface_to : Option ℕ → code.Option StaticSurfaceId
+surface_to none = code.None
+surface_to (some n) = code.Some (record { 0 = n })
 
 abbrev pub quad_to : model.Quad → ProjectionQuadState
 quad_to model.N = quad.N
@@ -89,13 +87,13 @@ abbrev pub edition_of : ProjectionPatchEdition → Edition
 edition_of V1 = v1
 edition_of V2 = v2
 
-abbrev pub before_of : OptionalKey → Option ℕ
-before_of key.None = none
-before_of (key.Some k) = some k.0
+abbrev pub before_of : code.Option CollectionKey → Option ℕ
+before_of code.None = none
+before_of (code.Some k) = some k.0
 
-abbrev pub surface_of : OptionalSurfaceId → Option ℕ
-surface_of surface.None = none
-surface_of (surface.Some s) = some s.0
+abbrev pub surface_of : code.Option StaticSurfaceId → Option ℕ
+surface_of code.None = none
+surface_of (code.Some s) = some s.0
 
 abbrev pub quad_of : ProjectionQuadState → model.Quad
 quad_of quad.N = model.N

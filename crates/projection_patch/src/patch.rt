@@ -2,11 +2,13 @@
 ghost use Rattle.std.specs.Prelude.{◌≡◌};
 ghost use Rattle.spec_patch.specs.Edition.{has_kind};
 ghost use Rattle.projection_patch.specs.Meaning.{edition_of};
+ghost use Rattle.projection_patch.specs.ReadAnswers.{quad_tag_answer, availability_tag_answer};
 
 use crate::binding_graph::BindingTarget;
 use crate::contract_primitives::{
     CollectionKey, Epoch, Revision, StaticDocumentId, StaticNodeId, StaticSurfaceId,
 };
+use crate::read_values::ProjectionPatchReadFault;
 
 // A patch; finding 13 reports 0.
 #[derive(Clone, Copy)]
@@ -63,17 +65,11 @@ impl ProjectionPatchSequence {
 }
 
 #[derive(Clone, Copy)]
-pub enum OptionalSurfaceId {
-    None,
-    Some(StaticSurfaceId),
-}
-
-#[derive(Clone, Copy)]
 pub struct ProjectionPatchEnvelope {
     pub patch_id: ProjectionPatchId,
     pub stream_id: ProjectionPatchStreamId,
     pub document_id: StaticDocumentId,
-    pub surface_id: OptionalSurfaceId,
+    pub surface_id: Option<StaticSurfaceId>,
     pub previous_projection_revision: Revision,
     pub projection_revision: Revision,
     pub epoch: Epoch,
@@ -106,6 +102,22 @@ pub enum ProjectionQuadState {
     S,
 }
 
+impl TryFrom<u8> for ProjectionQuadState {
+    type Error = ProjectionPatchReadFault;
+
+    ghost try_from_gives = { λ tag answer. answer ≡ quad_tag_answer tag };
+
+    fn try_from(tag: u8) -> Result<ProjectionQuadState, ProjectionPatchReadFault> {
+        match tag {
+            0 => Ok(ProjectionQuadState::N),
+            1 => Ok(ProjectionQuadState::F),
+            2 => Ok(ProjectionQuadState::T),
+            3 => Ok(ProjectionQuadState::S),
+            _ => Err(ProjectionPatchReadFault::Malformed),
+        }
+    }
+}
+
 // A text is the len bytes from start on, of the slice that is lent beside the value.
 #[derive(Clone, Copy)]
 pub enum ProjectionPatchValue {
@@ -125,10 +137,21 @@ pub enum ProjectionNodeAvailability {
     Stale,
 }
 
-#[derive(Clone, Copy)]
-pub enum OptionalKey {
-    None,
-    Some(CollectionKey),
+impl TryFrom<u8> for ProjectionNodeAvailability {
+    type Error = ProjectionPatchReadFault;
+
+    ghost try_from_gives = { λ tag answer. answer ≡ availability_tag_answer tag };
+
+    fn try_from(tag: u8) -> Result<ProjectionNodeAvailability, ProjectionPatchReadFault> {
+        match tag {
+            0 => Ok(ProjectionNodeAvailability::Available),
+            1 => Ok(ProjectionNodeAvailability::Unavailable),
+            2 => Ok(ProjectionNodeAvailability::Hidden),
+            3 => Ok(ProjectionNodeAvailability::Pending),
+            4 => Ok(ProjectionNodeAvailability::Stale),
+            _ => Err(ProjectionPatchReadFault::Malformed),
+        }
+    }
 }
 
 #[derive(Clone, Copy)]
@@ -144,7 +167,7 @@ pub enum ProjectionPatchOperation {
     CollectionInsert {
         collection: StaticNodeId,
         key: CollectionKey,
-        before: OptionalKey,
+        before: Option<CollectionKey>,
         value: ProjectionPatchValue,
     },
     CollectionUpdate {
@@ -159,7 +182,7 @@ pub enum ProjectionPatchOperation {
     CollectionMove {
         collection: StaticNodeId,
         key: CollectionKey,
-        before: OptionalKey,
+        before: Option<CollectionKey>,
     },
 }
 

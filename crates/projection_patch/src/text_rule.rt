@@ -5,26 +5,25 @@ ghost use Rattle.projection_patch.specs.TextRule.{judgement};
 use crate::patch::ProjectionPatchValue;
 use bytes_utf8::Utf8Check;
 
-// What the rule says of a text that keeps its bytes.
-#[derive(Drop)]
-pub enum TextJudgement {
-    Fits,
+// What the rule has against a text that keeps its bytes.
+#[derive(Clone, Copy, PartialEq, Eq)]
+pub enum TextFault {
     Malformed,
     ManyCharacters,
 }
 
 // The judgement of a text: RFC 3629 first, then its characters, which are counted on the way.
-pub fn judge_text(text: &[u8]) -> TextJudgement
+pub fn judge_text(text: &[u8]) -> Result<(), TextFault>
     ensures { result ≡ judgement text.now }
 {
     match bytes_utf8::check(text) {
         Utf8Check::Valid { characters } => {
             if characters <= ProjectionPatchValue::TEXT_CHARACTERS {
-                TextJudgement::Fits
+                Ok(())
             } else {
-                TextJudgement::ManyCharacters
+                Err(TextFault::ManyCharacters)
             }
         }
-        Utf8Check::Invalid => TextJudgement::Malformed,
+        Utf8Check::Invalid => Err(TextFault::Malformed),
     }
 }

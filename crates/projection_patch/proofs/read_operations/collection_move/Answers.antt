@@ -1,44 +1,34 @@
 -- `projection_patch::read_operations::collection_move` meets its contract: a collection, a key, then a neighbour.
-use Prim.Native.Nat.{ℕ}
-use mathlib.Core.Path.{sym, ap}
-use mathlib.Core.List.{List}
-use lib.ListN.{length}
-use Rattle.spec_lists.specs.Bytes.{Bytes}
+use Rattle.std.proofs.lemmas.Result.{err_from_is_err_and}
 use Rattle.spec_lists.proofs.BytesLaws.{bytes_of}
-use Rattle.projection_patch.specs.Widths.{past_key}
-use Rattle.projection_patch.specs.ReadAnswers.{operation_answer}
-use Rattle.spec_patch.specs.Read.{read_optional, to_move, operation_after}
-use Rattle.projection_patch.proofs.Answers.{optional_got, no_optional}
-use Rattle.projection_patch.proofs.Places.{PlaceAt, place_at, no_place, before_is}
-use borrow.Author.Rules.{rules}
+use Rattle.spec_lists.specs.Options.{optional_to}
+use Rattle.spec_patch.specs.Read.{read_optional, operation_after}
+use Rattle.spec_patch.proofs.ReadLaws.{optional_codec}
+use Rattle.projection_patch.specs.ReadAnswers.{anywhere}
+use Rattle.projection_patch.proofs.Answers.{got, not_got, numbers_got, numbers_refused}
+use Rattle.projection_patch.proofs.Places.{node_is, key_is, before_is}
 use Rattle.projection_patch.proofs.read_operations.collection_move.Goals as goal
-use Rattle.projection_patch.proofs.read_operations.collection_move.Goals.{After-collection_and_key, In-Read}
 
-abbrev part : After-collection_and_key → List ℕ
-part c = c.args.part.now
-
-all_bytes : (c : After-collection_and_key) → Bytes (part c)
-all_bytes c = bytes_of (part c) (λ j. (c.type_inv.part j).fits)
-
-here : (c : In-Read) → PlaceAt ((c.args.part.now)) c.in-Read.collection c.in-Read.key
-here c =
-    place_at ((c.args.part.now)) c.collection_and_key.result c.collection_and_key.ensures c.in-Read.collection c.in-Read.key c.in-Read.is
-
-pub returns-in_default : goal.returns-in_default
+pub returns-in_err-collection : goal.returns-in_err-collection
 unfolding operation_after
-returns-in_default c strict ed =
-    ap (operation_answer (length (part (goal.at.returns-in_default c).After-collection_and_key))) (sym (no_place (part (goal.at.returns-in_default c).After-collection_and_key) c.collection_and_key.result c.collection_and_key.ensures read_optional to_move c.in_default.is))
+returns-in_err-collection c strict ed =
+    let g = numbers_refused c.args.part.now 1 c.numbers_at.result c.numbers_at.ensures c.in_err-collection.field-0.0 c.in_err-collection.was read_optional in
+    let p = err_from_is_err_and c.from_residual.result c.from_residual.ensures.1 in
+    rw (p.1, p.2, ← g.same, g.is)
 
-pub returns-in-Read-optional_at : goal.returns-in-Read-optional_at
+pub returns-in_err-neighbour : goal.returns-in_err-neighbour
 unfolding operation_after
-returns-in-Read-optional_at c strict ed =
-    let p = here (goal.at.returns-in-Read-optional_at c).In-Read in
-    let b = optional_got (part (goal.at.returns-in-Read-optional_at c).After-collection_and_key) past_key c.optional_at.result c.optional_at.ensures (all_bytes (goal.at.returns-in-Read-optional_at c).After-collection_and_key) c.in-Read-optional_at.neighbour c.in-Read-optional_at.end c.in-Read-optional_at.is in
-    rw (p.numbers.first, p.numbers.second, b.is, b.there, p.node, p.in_it, before_is c.in-Read-optional_at.neighbour b.a b.same c.key_of.result c.key_of.ensures)
+returns-in_err-neighbour c strict ed =
+    let all = bytes_of c.args.part.now (λ j. (c.type_inv.part j).fits) in
+    let n = numbers_got c.args.part.now 1 c.numbers_at.result c.numbers_at.ensures all c.in_ok-collection.collection c.in_ok-collection.key c.in_ok-collection.at c.in_ok-collection.was in
+    let g = not_got (anywhere optional_to) optional_codec c.args.part.now c.in_ok-collection.at c.optional_at.result c.optional_at.ensures c.in_err-neighbour.field-0.0 c.in_err-neighbour.was in
+    let p = err_from_is_err_and c.from_residual-in_err-neighbour.result c.from_residual-in_err-neighbour.ensures.1 in
+    rw (p.1, p.2, ← g.same, n.first, n.second, g.is)
 
-pub returns-in-Refused : goal.returns-in-Refused
+pub returns : goal.returns
 unfolding operation_after
-returns-in-Refused c strict ed =
-    let p = here (goal.at.returns-in-Refused c).In-Read in
-    let b = no_optional (part (goal.at.returns-in-Refused c).After-collection_and_key) past_key c.optional_at.result c.optional_at.ensures c.in-Refused.fault c.in-Refused.is in
-    rw (p.numbers.first, p.numbers.second, b.is, b.same)
+returns c strict ed =
+    let all = bytes_of c.args.part.now (λ j. (c.type_inv.part j).fits) in
+    let n = numbers_got c.args.part.now 1 c.numbers_at.result c.numbers_at.ensures all c.in_ok-collection.collection c.in_ok-collection.key c.in_ok-collection.at c.in_ok-collection.was in
+    let b = got (anywhere optional_to) optional_codec c.args.part.now c.in_ok-collection.at c.optional_at.result c.optional_at.ensures all c.in_ok-neighbour.neighbour c.in_ok-neighbour.end c.in_ok-neighbour.was in
+    rw (n.first, n.second, b.is, b.there, node_is c.new.result c.in_ok-collection.collection c.new.ensures, key_is c.new-2.result c.in_ok-collection.key c.new-2.ensures, before_is c.in_ok-neighbour.neighbour b.a b.same c.key_of.result c.key_of.ensures)

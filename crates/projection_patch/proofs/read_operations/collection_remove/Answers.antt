@@ -1,31 +1,24 @@
 -- `projection_patch::read_operations::collection_remove` meets its contract: a collection and a key.
-use Prim.Native.Nat.{ℕ}
-use mathlib.Core.Path.{sym, ap}
-use mathlib.Core.List.{List}
-use lib.ListN.{length}
-use Rattle.spec_patch.specs.Read.{to_remove, operation_after}
-use Rattle.projection_patch.specs.Widths.{past_key}
-use Rattle.projection_patch.specs.ReadAnswers.{operation_answer}
-use Rattle.projection_patch.proofs.At.{position}
-use Rattle.projection_patch.proofs.Places.{PlaceAt, place_at, no_place_alone}
-use borrow.Author.Rules.{rules}
+use Rattle.std.proofs.lemmas.Result.{err_from_is_err_and}
+use Rattle.spec_lists.proofs.BytesLaws.{bytes_of}
+use Rattle.spec_patch.specs.Read.{operation_after}
+use Rattle.spec_patch.proofs.Codec.{pair_codec}
+use Rattle.spec_patch.proofs.ReadLaws.{u64_codec}
+use Rattle.projection_patch.specs.ReadAnswers.{plain}
+use Rattle.projection_patch.proofs.Answers.{not_got, numbers_got}
+use Rattle.projection_patch.proofs.Places.{node_is, key_is}
 use Rattle.projection_patch.proofs.read_operations.collection_remove.Goals as goal
-use Rattle.projection_patch.proofs.read_operations.collection_remove.Goals.{After-collection_and_key, In-Read}
 
-abbrev part : After-collection_and_key → List ℕ
-part c = c.args.part.now
-
-here : (c : In-Read) → PlaceAt ((c.args.part.now)) c.in-Read.collection c.in-Read.key
-here c =
-    place_at ((c.args.part.now)) c.collection_and_key.result c.collection_and_key.ensures c.in-Read.collection c.in-Read.key c.in-Read.is
-
-pub returns-in_default : goal.returns-in_default
+pub returns-in_err-collection : goal.returns-in_err-collection
 unfolding operation_after
-returns-in_default c strict ed =
-    ap (operation_answer (length (part (goal.at.returns-in_default c).After-collection_and_key))) (sym (no_place_alone (part (goal.at.returns-in_default c).After-collection_and_key) c.collection_and_key.result c.collection_and_key.ensures to_remove c.in_default.is))
+returns-in_err-collection c strict ed =
+    let g = not_got plain (pair_codec u64_codec u64_codec) c.args.part.now 1 c.numbers_at.result c.numbers_at.ensures c.in_err-collection.field-0.0 c.in_err-collection.was in
+    let p = err_from_is_err_and c.from_residual.result c.from_residual.ensures.1 in
+    rw (p.1, p.2, ← g.same, g.is)
 
 pub returns : goal.returns
 unfolding operation_after
 returns c strict ed =
-    let p = here c in
-    rw (p.numbers.first, p.numbers.second, position (part (goal.at.returns c).After-collection_and_key) past_key p.numbers.room, p.node, p.in_it)
+    let all = bytes_of c.args.part.now (λ j. (c.type_inv.part j).fits) in
+    let n = numbers_got c.args.part.now 1 c.numbers_at.result c.numbers_at.ensures all c.in_ok-collection.collection c.in_ok-collection.key c.in_ok-collection.end c.in_ok-collection.was in
+    rw (n.first, n.second, n.there, node_is c.new.result c.in_ok-collection.collection c.new.ensures, key_is c.new-2.result c.in_ok-collection.key c.new-2.ensures)

@@ -1,63 +1,55 @@
 -- `projection_patch::read_operations::operation_from` meets its contract: the tag picks the reader.
-use Prim.Native.Nat.{ℕ}
-use mathlib.Core.Path.{◌≡◌, refl, sym, ap, ◌∙◌}
-use mathlib.Core.Bool.{Bool}
-use mathlib.Core.List.{List}
-use native.Mathlib.Omega.{arith}
-use borrow.Author.Tests.{ne_eqb}
-use lib.ListN.{length, get_or, drop}
-use Rattle.spec_patch.specs.Edition.{Edition}
-use Rattle.spec_patch.specs.Reader.{refused, malformed}
-use Rattle.spec_patch.specs.Read.{operation_after, read_operation_by}
-use Rattle.projection_patch.specs.Meaning.{edition_of}
-use Rattle.projection_patch.specs.ReadAnswers.{operation_answer}
-use Rattle.projection_patch.proofs.Answers.{picked, no_tag}
+use mathlib.Core.Path.{◌≡◌, ap, ◌∙◌}
 use borrow.Author.Rules.{rules}
+use lib.ListN.{drop}
+use Rattle.std.proofs.lemmas.Result.{err_from_is_err_and}
+use Rattle.spec_lists.proofs.BytesLaws.{bytes_of}
+use Rattle.spec_patch.specs.Reader.{byte, read}
+use Rattle.spec_patch.specs.Read.{operation_after, read_operation_by}
+use Rattle.spec_patch.proofs.Codec.{byte_codec}
+use Rattle.projection_patch.specs.Meaning.{edition_of}
+use Rattle.projection_patch.specs.ReadAnswers.{plain}
+use Rattle.projection_patch.proofs.Answers.{plain_got, not_got, behind_byte}
 use Rattle.projection_patch.proofs.read_operations.operation_from.Goals as goal
-use Rattle.projection_patch.proofs.read_operations.operation_from.Goals.{After-shared_slice_known-2-1}
+use Rattle.projection_patch.proofs.read_operations.operation_from.Goals.{In_ok-tag}
 
-abbrev part : After-shared_slice_known-2-1 → List ℕ
-part c = c.args.part.now
+-- the tag stands in front, and the fields behind it
+tagged : (c : In_ok-tag) → byte c.args.part.now ≡ read c.in_ok-tag.tag (drop 1 c.args.part.now)
+tagged c =
+    let g = plain_got byte_codec c.args.part.now 0 c.byte_at.result c.byte_at.ensures (bytes_of c.args.part.now (λ j. (c.type_inv.part j).fits)) c.in_ok-tag.tag c.in_ok-tag.field-0-1 c.in_ok-tag.was in
+    g.is ∙ ap (read c.in_ok-tag.tag) (behind_byte c.args.part.now c.in_ok-tag.tag (drop c.in_ok-tag.field-0-1 c.args.part.now) g.is)
 
-abbrev strict : After-shared_slice_known-2-1 → Bool
-strict c = c.args.strict
-
-abbrev edition : After-shared_slice_known-2-1 → Edition
-edition c = edition_of c.args.edition
-
--- the answer of the reader after the tag t is the whole's
-tagged : (c : After-shared_slice_known-2-1) (t : ℕ) → get_or (part c) 0 0 ≡ t → operation_answer (length (part c)) (operation_after (strict c) (edition c) t (drop 1 (part c))) ≡ operation_answer (length (part c)) (read_operation_by (strict c) (edition c) (part c))
+pub returns-in_err-tag : goal.returns-in_err-tag
 unfolding read_operation_by
-tagged c t e = picked (operation_after (strict c) (edition c)) (part c) 0 (operation_answer (length (part c))) t (omega arith) e
-
-other : (check : Bool) (ed : Edition) (t : ℕ) (bs : List ℕ) → (t ≡ 1 → ⊥) → (t ≡ 2 → ⊥) → (t ≡ 3 → ⊥) → (t ≡ 4 → ⊥) → (t ≡ 5 → ⊥) → (t ≡ 6 → ⊥) → operation_after check ed t bs ≡ refused malformed
-unfolding operation_after
-other check ed t bs a b c d e f = rw (ne_eqb t 1 a, ne_eqb t 2 b, ne_eqb t 3 c, ne_eqb t 4 d, ne_eqb t 5 e, ne_eqb t 6 f)
-
-pub returns-then-part-eq0 : goal.returns-then-part-eq0
-unfolding read_operation_by
-returns-then-part-eq0 c =
-    rw (no_tag (operation_after c.args.strict (edition_of c.args.edition)) c.args.part.now 0 (omega arith))
+returns-in_err-tag c =
+    let g = not_got plain byte_codec c.args.part.now 0 c.byte_at.result c.byte_at.ensures c.in_err-tag.field-0.0 c.in_err-tag.was in
+    let p = err_from_is_err_and c.from_residual.result c.from_residual.ensures.1 in
+    rw (p.1, p.2, ← g.same, g.is)
 
 pub returns-in-1 : goal.returns-in-1
-returns-in-1 c = c.set_binding_value.ensures ∙ tagged (goal.at.returns-in-1 c).After-shared_slice_known-2-1 1 c.in-1.is
+unfolding read_operation_by
+returns-in-1 c = c.set_binding_value.ensures ∙ rw (tagged (goal.at.returns-in-1 c).In_ok-tag, c.in-1.is)
 
 pub returns-in-2 : goal.returns-in-2
-returns-in-2 c = c.set_node_availability.ensures (strict (goal.at.returns-in-2 c).After-shared_slice_known-2-1) (edition (goal.at.returns-in-2 c).After-shared_slice_known-2-1) ∙ tagged (goal.at.returns-in-2 c).After-shared_slice_known-2-1 2 c.in-2.is
+unfolding read_operation_by
+returns-in-2 c = c.set_node_availability.ensures c.args.strict (edition_of c.args.edition) ∙ rw (tagged (goal.at.returns-in-2 c).In_ok-tag, c.in-2.is)
 
 pub returns-in-3 : goal.returns-in-3
-returns-in-3 c = c.collection_insert.ensures ∙ tagged (goal.at.returns-in-3 c).After-shared_slice_known-2-1 3 c.in-3.is
+unfolding read_operation_by
+returns-in-3 c = c.collection_insert.ensures ∙ rw (tagged (goal.at.returns-in-3 c).In_ok-tag, c.in-3.is)
 
 pub returns-in-4 : goal.returns-in-4
-returns-in-4 c = c.collection_update.ensures ∙ tagged (goal.at.returns-in-4 c).After-shared_slice_known-2-1 4 c.in-4.is
+unfolding read_operation_by
+returns-in-4 c = c.collection_update.ensures ∙ rw (tagged (goal.at.returns-in-4 c).In_ok-tag, c.in-4.is)
 
 pub returns-in-5 : goal.returns-in-5
-returns-in-5 c = c.collection_remove.ensures (strict (goal.at.returns-in-5 c).After-shared_slice_known-2-1) (edition (goal.at.returns-in-5 c).After-shared_slice_known-2-1) ∙ tagged (goal.at.returns-in-5 c).After-shared_slice_known-2-1 5 c.in-5.is
+unfolding read_operation_by
+returns-in-5 c = c.collection_remove.ensures c.args.strict (edition_of c.args.edition) ∙ rw (tagged (goal.at.returns-in-5 c).In_ok-tag, c.in-5.is)
 
 pub returns-in-6 : goal.returns-in-6
-returns-in-6 c = c.collection_move.ensures (strict (goal.at.returns-in-6 c).After-shared_slice_known-2-1) (edition (goal.at.returns-in-6 c).After-shared_slice_known-2-1) ∙ tagged (goal.at.returns-in-6 c).After-shared_slice_known-2-1 6 c.in-6.is
+unfolding read_operation_by
+returns-in-6 c = c.collection_move.ensures c.args.strict (edition_of c.args.edition) ∙ rw (tagged (goal.at.returns-in-6 c).In_ok-tag, c.in-6.is)
 
 pub returns-in_default : goal.returns-in_default
-returns-in_default c =
-    ap (operation_answer (length (part (goal.at.returns-in_default c).After-shared_slice_known-2-1))) (sym (other (strict (goal.at.returns-in_default c).After-shared_slice_known-2-1) (edition (goal.at.returns-in_default c).After-shared_slice_known-2-1) (get_or (part (goal.at.returns-in_default c).After-shared_slice_known-2-1) 0 0) (drop 1 (part (goal.at.returns-in_default c).After-shared_slice_known-2-1)) c.in_default.in_default-own.rest.0.0.0.0.0.1 c.in_default.in_default-own.rest.0.0.0.0.1 c.in_default.in_default-own.rest.0.0.0.1 c.in_default.in_default-own.rest.0.0.1 c.in_default.in_default-own.rest.0.1 c.in_default.in_default-own.rest.1))
-    ∙ tagged (goal.at.returns-in_default c).After-shared_slice_known-2-1 (get_or (part (goal.at.returns-in_default c).After-shared_slice_known-2-1) 0 0) refl
+unfolding read_operation_by operation_after
+returns-in_default c = rw (tagged (goal.at.returns-in_default c).In_ok-tag) (search rules)

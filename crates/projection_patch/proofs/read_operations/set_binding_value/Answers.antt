@@ -1,59 +1,45 @@
 -- `projection_patch::read_operations::set_binding_value` meets its contract: a node, a slot, then a value.
-use Prim.Native.Nat.{ℕ}
-use mathlib.Core.Bool.{Bool}
-use mathlib.Core.List.{List}
-use Rattle.spec_lists.specs.Bytes.{Bytes}
+use Rattle.std.proofs.lemmas.Result.{err_from_is_err_and}
 use Rattle.spec_lists.proofs.BytesLaws.{bytes_of}
-use Rattle.spec_patch.specs.Edition.{Edition}
 use Rattle.spec_patch.specs.Read.{operation_after}
-use Rattle.projection_patch.specs.Widths.{tagged_bytes, past_slot}
-use Rattle.projection_patch.specs.Meaning.{edition_of}
-use Rattle.projection_patch.proofs.At.{NumberAt, u64_at, u64_short, u32_at, u32_short}
-use Rattle.projection_patch.proofs.Answers.{value_got, no_value}
+use Rattle.spec_patch.proofs.ReadLaws.{u32_codec, u64_codec, value_codec_by}
+use Rattle.projection_patch.specs.Meaning.{edition_of, value_to}
+use Rattle.projection_patch.specs.ReadAnswers.{plain}
+use Rattle.projection_patch.proofs.Answers.{got, not_got, plain_got}
 use Rattle.projection_patch.proofs.Places.{node_is}
-use borrow.Author.Rules.{rules}
 use Rattle.projection_patch.proofs.read_operations.set_binding_value.Goals as goal
-use Rattle.projection_patch.proofs.read_operations.set_binding_value.Goals.{After-shared_slice_known-1, In-Some, In-Some-read_u32_at}
 
-abbrev part : After-shared_slice_known-1 → List ℕ
-part c = c.args.part.now
-
-all_bytes : (c : After-shared_slice_known-1) → Bytes (part c)
-all_bytes c = bytes_of (part c) (λ j. (c.type_inv.part j).fits)
-
-abbrev strict : After-shared_slice_known-1 → Bool
-strict c = c.args.strict
-
-abbrev edition : After-shared_slice_known-1 → Edition
-edition c = edition_of c.args.edition
-
-node : (c : In-Some) → NumberAt ((c.args.part.now)) 1 8 c.in-Some.node
-node c =
-    u64_at ((c.args.part.now)) 1 c.in-Some.node c.read_u64_at.result c.read_u64_at.ensures c.in-Some.is
-
-slot : (c : In-Some-read_u32_at) → NumberAt ((c.args.part.now)) tagged_bytes 4 c.in-Some-read_u32_at.slot
-slot c =
-    u32_at ((c.args.part.now)) tagged_bytes c.in-Some-read_u32_at.slot c.read_u32_at.result c.read_u32_at.ensures c.in-Some-read_u32_at.is
-
-pub returns-in_default : goal.returns-in_default
+pub returns-in_err-node : goal.returns-in_err-node
 unfolding operation_after
-returns-in_default c =
-    rw (u64_short (part (goal.at.returns-in_default c).After-shared_slice_known-1) 1 c.read_u64_at.result c.read_u64_at.ensures c.in_default.is)
+returns-in_err-node c =
+    let g = not_got plain u64_codec c.args.part.now 1 c.u64_at.result c.u64_at.ensures c.in_err-node.field-0.0 c.in_err-node.was in
+    let p = err_from_is_err_and c.from_residual.result c.from_residual.ensures.1 in
+    rw (p.1, p.2, ← g.same, g.is)
 
-pub returns-in_default-read_u32_at : goal.returns-in_default-read_u32_at
+pub returns-in_err-slot : goal.returns-in_err-slot
 unfolding operation_after
-returns-in_default-read_u32_at c =
-    let l = part (goal.at.returns-in_default-read_u32_at c).After-shared_slice_known-1 in
-    rw ((node (goal.at.returns-in_default-read_u32_at c).In-Some).is, u32_short l tagged_bytes c.read_u32_at.result c.read_u32_at.ensures c.in_default-read_u32_at.is)
+returns-in_err-slot c =
+    let all = bytes_of c.args.part.now (λ j. (c.type_inv.part j).fits) in
+    let n = plain_got u64_codec c.args.part.now 1 c.u64_at.result c.u64_at.ensures all c.in_ok-node.node c.in_ok-node.at c.in_ok-node.was in
+    let g = not_got plain u32_codec c.args.part.now c.in_ok-node.at c.u32_at.result c.u32_at.ensures c.in_err-slot.field-0.0 c.in_err-slot.was in
+    let p = err_from_is_err_and c.from_residual-in_err-slot.result c.from_residual-in_err-slot.ensures.1 in
+    rw (p.1, p.2, ← g.same, n.is, g.is)
 
-pub returns-in-Read : goal.returns-in-Read
+pub returns-in_err-value : goal.returns-in_err-value
 unfolding operation_after
-returns-in-Read c =
-    let v = value_got (part (goal.at.returns-in-Read c).After-shared_slice_known-1) past_slot (strict (goal.at.returns-in-Read c).After-shared_slice_known-1) (edition (goal.at.returns-in-Read c).After-shared_slice_known-1) c.value_at.result c.value_at.ensures (all_bytes (goal.at.returns-in-Read c).After-shared_slice_known-1) c.in-Read.value c.in-Read.end c.in-Read.is in
-    rw (c.same_value.ensures, (node (goal.at.returns-in-Read c).In-Some).is, (slot (goal.at.returns-in-Read c).In-Some-read_u32_at).is, v.is, v.there, v.same, node_is c.new.result c.in-Some.node c.new.ensures)
+returns-in_err-value c =
+    let all = bytes_of c.args.part.now (λ j. (c.type_inv.part j).fits) in
+    let n = plain_got u64_codec c.args.part.now 1 c.u64_at.result c.u64_at.ensures all c.in_ok-node.node c.in_ok-node.at c.in_ok-node.was in
+    let s = plain_got u32_codec c.args.part.now c.in_ok-node.at c.u32_at.result c.u32_at.ensures all c.in_ok-slot.slot c.in_ok-slot.at c.in_ok-slot.was in
+    let g = not_got value_to (value_codec_by c.args.strict (edition_of c.args.edition)) c.args.part.now c.in_ok-slot.at c.value_at.result c.value_at.ensures c.in_err-value.field-0.0 c.in_err-value.was in
+    let p = err_from_is_err_and c.from_residual-in_err-value.result c.from_residual-in_err-value.ensures.1 in
+    rw (p.1, p.2, ← g.same, n.is, s.is, g.is)
 
-pub returns-in-Refused : goal.returns-in-Refused
+pub returns : goal.returns
 unfolding operation_after
-returns-in-Refused c =
-    let v = no_value (part (goal.at.returns-in-Refused c).After-shared_slice_known-1) past_slot (strict (goal.at.returns-in-Refused c).After-shared_slice_known-1) (edition (goal.at.returns-in-Refused c).After-shared_slice_known-1) c.value_at.result c.value_at.ensures c.in-Refused.fault c.in-Refused.is in
-    rw ((node (goal.at.returns-in-Refused c).In-Some).is, (slot (goal.at.returns-in-Refused c).In-Some-read_u32_at).is, v.is, v.same)
+returns c =
+    let all = bytes_of c.args.part.now (λ j. (c.type_inv.part j).fits) in
+    let n = plain_got u64_codec c.args.part.now 1 c.u64_at.result c.u64_at.ensures all c.in_ok-node.node c.in_ok-node.at c.in_ok-node.was in
+    let s = plain_got u32_codec c.args.part.now c.in_ok-node.at c.u32_at.result c.u32_at.ensures all c.in_ok-slot.slot c.in_ok-slot.at c.in_ok-slot.was in
+    let v = got value_to (value_codec_by c.args.strict (edition_of c.args.edition)) c.args.part.now c.in_ok-slot.at c.value_at.result c.value_at.ensures all c.in_ok-value.value c.in_ok-value.end c.in_ok-value.was in
+    rw (c.same_value.ensures, n.is, s.is, v.is, v.there, v.same, node_is c.new.result c.in_ok-node.node c.new.ensures)

@@ -1,60 +1,36 @@
 -- `projection_patch::read_values::availability_at` meets its contract: the byte picks the state.
-use Prim.Native.Nat.{ℕ, ◌+◌}
-use mathlib.Core.Path.{◌≡◌, refl, sym, ap, ◌∙◌}
-use mathlib.Core.List.{List}
-use native.Mathlib.Omega.{arith}
-use borrow.Author.Tests.{ne_eqb}
-use lib.ListN.{length, get_or, drop}
-use Rattle.spec_patch.specs.Reader.{refused, malformed}
-use Rattle.spec_patch.specs.Read.{availability_after, read_availability}
-use Rattle.projection_patch.specs.ReadAnswers.{availability_answer}
-use Rattle.projection_patch.proofs.At.{position}
-use Rattle.projection_patch.proofs.Answers.{picked, no_tag}
-use borrow.Author.Rules.{rules}
+use Rattle.std.proofs.lemmas.Result.{err_from_is_err_and}
+use Rattle.spec_lists.proofs.BytesLaws.{bytes_of}
+use lib.ListN.{length, drop}
+use Rattle.spec_patch.specs.Reader.{byte}
+use Rattle.spec_patch.specs.Read.{read_availability}
+use Rattle.spec_patch.proofs.Codec.{byte_codec}
+use Rattle.projection_patch.specs.ReadAnswers.{plain}
+use Rattle.projection_patch.proofs.Answers.{GotPlain, plain_got, not_got}
+use Rattle.projection_patch.proofs.States.{availability_left}
 use Rattle.projection_patch.proofs.read_values.availability_at.Goals as goal
-use Rattle.projection_patch.proofs.read_values.availability_at.Goals.{After-shared_slice_known-1}
+use Rattle.projection_patch.proofs.read_values.availability_at.Goals.{In_ok-tag}
 
-abbrev part : After-shared_slice_known-1 → List ℕ
-part c = c.args.part.now
+got : (c : In_ok-tag) → GotPlain byte c.args.part.now c.args.at c.in_ok-tag.tag c.in_ok-tag.end
+got c =
+    plain_got byte_codec c.args.part.now c.args.at c.byte_at.result c.byte_at.ensures (bytes_of c.args.part.now (λ j. (c.type_inv.part j).fits)) c.in_ok-tag.tag c.in_ok-tag.end c.in_ok-tag.was
 
-abbrev at : After-shared_slice_known-1 → ℕ
-at c = c.args.at
-
--- the answer after the byte t is the whole's
-tagged : (c : After-shared_slice_known-1) (t : ℕ) → get_or (part c) (at c) 0 ≡ t → availability_answer (length (part c)) (availability_after t (drop (at c + 1) (part c))) ≡ availability_answer (length (part c)) (read_availability (drop (at c) (part c)))
+pub returns-in_err-tag : goal.returns-in_err-tag
 unfolding read_availability
-tagged c t e = picked availability_after (part c) (at c) (availability_answer (length (part c))) t (omega arith) e
+returns-in_err-tag c =
+    let g = not_got plain byte_codec c.args.part.now c.args.at c.byte_at.result c.byte_at.ensures c.in_err-tag.field-0.0 c.in_err-tag.was in
+    let p = err_from_is_err_and c.from_residual.result c.from_residual.ensures.1 in
+    rw (p.1, p.2, ← g.same, g.is)
 
-other : (t : ℕ) (bs : List ℕ) → (t ≡ 0 → ⊥) → (t ≡ 1 → ⊥) → (t ≡ 2 → ⊥) → (t ≡ 3 → ⊥) → (t ≡ 4 → ⊥) → availability_after t bs ≡ refused malformed
-unfolding availability_after
-other t bs a b c d e = rw (ne_eqb t 0 a, ne_eqb t 1 b, ne_eqb t 2 c, ne_eqb t 3 d, ne_eqb t 4 e)
-
-pub returns-then-part-at : goal.returns-then-part-at
+pub returns-in_err-try_from : goal.returns-in_err-try_from
 unfolding read_availability
-returns-then-part-at c =
-    rw (no_tag availability_after c.args.part.now c.args.at c.if-part-at.true)
+returns-in_err-try_from c =
+    let g = got (goal.at.returns-in_err-try_from c).In_ok-tag in
+    let p = err_from_is_err_and c.from_residual-in_err-try_from.result c.from_residual-in_err-try_from.ensures.1 in
+    rw (p.1, p.2, g.is, availability_left c.in_ok-tag.tag (length c.args.part.now) (drop c.in_ok-tag.end c.args.part.now), ← c.try_from.ensures, c.in_err-try_from.was)
 
-pub returns-in-0 : goal.returns-in-0
-unfolding availability_after
-returns-in-0 c = rw (← tagged (goal.at.returns-in-0 c).After-shared_slice_known-1 0 c.in-0.is, position (part (goal.at.returns-in-0 c).After-shared_slice_known-1) (at (goal.at.returns-in-0 c).After-shared_slice_known-1 + 1) (omega arith))
-
-pub returns-in-1 : goal.returns-in-1
-unfolding availability_after
-returns-in-1 c = rw (← tagged (goal.at.returns-in-1 c).After-shared_slice_known-1 1 c.in-1.is, position (part (goal.at.returns-in-1 c).After-shared_slice_known-1) (at (goal.at.returns-in-1 c).After-shared_slice_known-1 + 1) (omega arith))
-
-pub returns-in-2 : goal.returns-in-2
-unfolding availability_after
-returns-in-2 c = rw (← tagged (goal.at.returns-in-2 c).After-shared_slice_known-1 2 c.in-2.is, position (part (goal.at.returns-in-2 c).After-shared_slice_known-1) (at (goal.at.returns-in-2 c).After-shared_slice_known-1 + 1) (omega arith))
-
-pub returns-in-3 : goal.returns-in-3
-unfolding availability_after
-returns-in-3 c = rw (← tagged (goal.at.returns-in-3 c).After-shared_slice_known-1 3 c.in-3.is, position (part (goal.at.returns-in-3 c).After-shared_slice_known-1) (at (goal.at.returns-in-3 c).After-shared_slice_known-1 + 1) (omega arith))
-
-pub returns-in-4 : goal.returns-in-4
-unfolding availability_after
-returns-in-4 c = rw (← tagged (goal.at.returns-in-4 c).After-shared_slice_known-1 4 c.in-4.is, position (part (goal.at.returns-in-4 c).After-shared_slice_known-1) (at (goal.at.returns-in-4 c).After-shared_slice_known-1 + 1) (omega arith))
-
-pub returns-in_default : goal.returns-in_default
-returns-in_default c =
-    ap (availability_answer (length (part (goal.at.returns-in_default c).After-shared_slice_known-1))) (sym (other (get_or (part (goal.at.returns-in_default c).After-shared_slice_known-1) (at (goal.at.returns-in_default c).After-shared_slice_known-1) 0) (drop (at (goal.at.returns-in_default c).After-shared_slice_known-1 + 1) (part (goal.at.returns-in_default c).After-shared_slice_known-1)) c.in_default.in_default-own.rest.0.0.0.0.1 c.in_default.in_default-own.rest.0.0.0.1 c.in_default.in_default-own.rest.0.0.1 c.in_default.in_default-own.rest.0.1 c.in_default.in_default-own.rest.1))
-    ∙ tagged (goal.at.returns-in_default c).After-shared_slice_known-1 (get_or (part (goal.at.returns-in_default c).After-shared_slice_known-1) (at (goal.at.returns-in_default c).After-shared_slice_known-1) 0) refl
+pub returns : goal.returns
+unfolding read_availability
+returns c =
+    let g = got (goal.at.returns c).In_ok-tag in
+    rw (g.is, availability_left c.in_ok-tag.tag (length c.args.part.now) (drop c.in_ok-tag.end c.args.part.now), g.there, ← c.try_from.ensures, c.in_ok-try_from.was)

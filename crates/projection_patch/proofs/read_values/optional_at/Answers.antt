@@ -1,48 +1,35 @@
 -- `projection_patch::read_values::optional_at` meets its contract: the tag picks the reader.
-use Prim.Native.Nat.{ℕ, ◌+◌}
-use mathlib.Core.Path.{◌≡◌, refl, sym, ap, ◌∙◌}
-use mathlib.Core.List.{List}
-use native.Mathlib.Omega.{arith}
-use borrow.Author.Tests.{ne_eqb}
-use lib.ListN.{length, get_or, drop}
-use Rattle.spec_patch.specs.Reader.{refused, malformed}
-use Rattle.spec_patch.specs.Read.{optional_after, read_optional}
-use Rattle.projection_patch.specs.ReadAnswers.{optional_answer}
-use Rattle.projection_patch.proofs.At.{position}
-use Rattle.projection_patch.proofs.Answers.{picked, no_tag}
+use mathlib.Core.Path.{◌∙◌}
 use borrow.Author.Rules.{rules}
+use Rattle.std.proofs.lemmas.Result.{err_from_is_err_and}
+use Rattle.spec_lists.proofs.BytesLaws.{bytes_of}
+use Rattle.spec_patch.specs.Reader.{byte}
+use Rattle.spec_patch.specs.Read.{optional_after, read_optional}
+use Rattle.spec_patch.proofs.Codec.{byte_codec}
+use Rattle.projection_patch.specs.ReadAnswers.{plain}
+use Rattle.projection_patch.proofs.Answers.{GotPlain, plain_got, not_got}
 use Rattle.projection_patch.proofs.read_values.optional_at.Goals as goal
-use Rattle.projection_patch.proofs.read_values.optional_at.Goals.{After-shared_slice_known-2-1}
+use Rattle.projection_patch.proofs.read_values.optional_at.Goals.{In_ok-tag}
 
-abbrev part : After-shared_slice_known-2-1 → List ℕ
-part c = c.args.part.now
+got : (c : In_ok-tag) → GotPlain byte c.args.part.now c.args.at c.in_ok-tag.tag c.in_ok-tag.body
+got c =
+    plain_got byte_codec c.args.part.now c.args.at c.byte_at.result c.byte_at.ensures (bytes_of c.args.part.now (λ j. (c.type_inv.part j).fits)) c.in_ok-tag.tag c.in_ok-tag.body c.in_ok-tag.was
 
-abbrev at : After-shared_slice_known-2-1 → ℕ
-at c = c.args.at
-
--- the answer of the reader after the tag t is the whole's
-tagged : (c : After-shared_slice_known-2-1) (t : ℕ) → get_or (part c) (at c) 0 ≡ t → optional_answer (length (part c)) (optional_after t (drop (at c + 1) (part c))) ≡ optional_answer (length (part c)) (read_optional (drop (at c) (part c)))
+pub returns-in_err-tag : goal.returns-in_err-tag
 unfolding read_optional
-tagged c t e = picked optional_after (part c) (at c) (optional_answer (length (part c))) t (omega arith) e
-
-other : (t : ℕ) (bs : List ℕ) → (t ≡ 0 → ⊥) → (t ≡ 1 → ⊥) → optional_after t bs ≡ refused malformed
-unfolding optional_after
-other t bs a b = rw (ne_eqb t 0 a, ne_eqb t 1 b)
-
-pub returns-then-part-at : goal.returns-then-part-at
-unfolding read_optional
-returns-then-part-at c =
-    rw (no_tag optional_after c.args.part.now c.args.at c.if-part-at.true)
+returns-in_err-tag c =
+    let g = not_got plain byte_codec c.args.part.now c.args.at c.byte_at.result c.byte_at.ensures c.in_err-tag.field-0.0 c.in_err-tag.was in
+    let p = err_from_is_err_and c.from_residual.result c.from_residual.ensures.1 in
+    rw (p.1, p.2, ← g.same, g.is)
 
 pub returns-in-0 : goal.returns-in-0
-unfolding optional_after
-returns-in-0 c = rw (← tagged (goal.at.returns-in-0 c).After-shared_slice_known-2-1 0 c.in-0.is, position (part (goal.at.returns-in-0 c).After-shared_slice_known-2-1) (at (goal.at.returns-in-0 c).After-shared_slice_known-2-1 + 1) (omega arith))
+unfolding read_optional optional_after
+returns-in-0 c = let g = got (goal.at.returns-in-0 c).In_ok-tag in rw (g.is, c.in-0.is, g.there)
 
 pub returns-in-1 : goal.returns-in-1
-unfolding optional_after
-returns-in-1 c = c.some_at.ensures ∙ tagged (goal.at.returns-in-1 c).After-shared_slice_known-2-1 1 c.in-1.is
+unfolding read_optional optional_after
+returns-in-1 c = let g = got (goal.at.returns-in-1 c).In_ok-tag in c.some_at.ensures ∙ rw (g.is, c.in-1.is)
 
 pub returns-in_default : goal.returns-in_default
-returns-in_default c =
-    ap (optional_answer (length (part (goal.at.returns-in_default c).After-shared_slice_known-2-1))) (sym (other (get_or (part (goal.at.returns-in_default c).After-shared_slice_known-2-1) (at (goal.at.returns-in_default c).After-shared_slice_known-2-1) 0) (drop (at (goal.at.returns-in_default c).After-shared_slice_known-2-1 + 1) (part (goal.at.returns-in_default c).After-shared_slice_known-2-1)) c.in_default.in_default-own.rest.0.1 c.in_default.in_default-own.rest.1))
-    ∙ tagged (goal.at.returns-in_default c).After-shared_slice_known-2-1 (get_or (part (goal.at.returns-in_default c).After-shared_slice_known-2-1) (at (goal.at.returns-in_default c).After-shared_slice_known-2-1) 0) refl
+unfolding read_optional optional_after
+returns-in_default c = let g = got (goal.at.returns-in_default c).In_ok-tag in rw (g.is) (search rules)

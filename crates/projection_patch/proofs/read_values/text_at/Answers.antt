@@ -1,27 +1,22 @@
 -- `projection_patch::read_values::text_at` meets its contract: a length of four bytes, then the text.
 use mathlib.Core.Path.{◌∙◌}
-use native.Mathlib.Omega.{arith}
+use Rattle.std.proofs.lemmas.Result.{err_from_is_err_and}
+use Rattle.spec_lists.proofs.BytesLaws.{bytes_of}
 use Rattle.spec_patch.specs.Read.{read_text_by}
-use Rattle.projection_patch.proofs.At.{NumberAt, u32_at, u32_short}
-use borrow.Author.Rules.{rules}
+use Rattle.spec_patch.proofs.ReadLaws.{u32_codec}
+use Rattle.projection_patch.specs.ReadAnswers.{plain}
+use Rattle.projection_patch.proofs.Answers.{plain_got, not_got}
 use Rattle.projection_patch.proofs.read_values.text_at.Goals as goal
-use Rattle.projection_patch.proofs.read_values.text_at.Goals.{In-Some}
 
-got : (c : In-Some) → NumberAt c.args.part.now c.args.at 4 c.in-Some.len
-got c =
-    u32_at c.args.part.now c.args.at c.in-Some.len c.read_u32_at.result c.read_u32_at.ensures c.in-Some.is
-
-pub overflow_add-at : goal.overflow_add-at
-overflow_add-at c = omega (arith, (got c).room)
-
-pub text_from-requires : goal.text_from-requires
-text_from-requires c = omega (arith, (got c).room)
-
-pub returns-in-Some : goal.returns-in-Some
+pub returns-in_err-len : goal.returns-in_err-len
 unfolding read_text_by
-returns-in-Some c = c.text_from.ensures ∙ rw (got (goal.at.returns-in-Some c).In-Some).is
+returns-in_err-len c =
+    let g = not_got plain u32_codec c.args.part.now c.args.at c.u32_at.result c.u32_at.ensures c.in_err-len.field-0.0 c.in_err-len.was in
+    let p = err_from_is_err_and c.from_residual.result c.from_residual.ensures.1 in
+    rw (p.1, p.2, ← g.same, g.is)
 
-pub returns-in-None : goal.returns-in-None
+pub returns : goal.returns
 unfolding read_text_by
-returns-in-None c =
-    rw (u32_short c.args.part.now c.args.at c.read_u32_at.result c.read_u32_at.ensures c.in-None.is)
+returns c =
+    let g = plain_got u32_codec c.args.part.now c.args.at c.u32_at.result c.u32_at.ensures (bytes_of c.args.part.now (λ j. (c.type_inv.part j).fits)) c.in_ok-len.len c.in_ok-len.start c.in_ok-len.was in
+    c.text_from.ensures ∙ rw g.is

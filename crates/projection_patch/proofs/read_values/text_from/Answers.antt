@@ -1,14 +1,13 @@
 -- `projection_patch::read_values::text_from` meets its contract: as many bytes, few enough, and the rule of texts of them.
-use mathlib.Core.Bool.{not}
 use Prim.Native.Nat.{ℕ}
 use mathlib.Core.Path.{◌≡◌, sym, ap, ◌∙◌}
+use mathlib.Core.Bool.{true}
 use mathlib.Core.List.{List}
 use native.Mathlib.Omega.{arith}
-use native.Mathlib.Nat.{add-sub_cancel_left}
-use borrow.Author.Rules.{rules}
 use lib.ListN.{take, drop}
+use Rattle.std.proofs.lemmas.Result.{err_from_is_err_and}
 use Rattle.projection_patch.specs.TextRule.{judgement}
-use Rattle.projection_patch.proofs.Texts.{judged_fits, judged_malformed, judged_many, unchecked, body_short, body_long, body_bad, body_many, body_placed, just_there}
+use Rattle.projection_patch.proofs.Texts.{judged_fits, body_placed, body_refused, lent_text}
 use Rattle.projection_patch.proofs.read_values.text_from.Goals as goal
 use Rattle.projection_patch.proofs.read_values.text_from.Goals.{After-judge_text}
 
@@ -17,30 +16,18 @@ abbrev text : After-judge_text → List ℕ
 text k = take k.args.len (drop k.args.start k.args.part.now)
 
 -- the rule is asked of them
-asked : (k : After-judge_text) → k.judge_text.result ≡ judgement (text k)
+asked : (k : After-judge_text) → judgement (text k) ≡ k.judge_text.result
 asked k =
-    k.judge_text.ensures
-    ∙ ap judgement (k.text_of.ensures ∙ sym (just_there k.args.part.now k.args.start _ (omega arith)) ∙ ap (λ (m : ℕ). take m (drop k.args.start k.args.part.now)) (add-sub_cancel_left k.args.start k.args.len))
+    sym (k.judge_text.ensures ∙ ap judgement (k.text_of.ensures ∙ lent_text k.args.part.now k.args.start k.args.len (omega arith)))
 
-pub returns-then-part-start : goal.returns-then-part-start
-returns-then-part-start c = rw (body_short c.args.strict c.args.part.now c.args.start c.args.len (omega arith))
+pub returns-in_err-judge_text : goal.returns-in_err-judge_text
+returns-in_err-judge_text c =
+    let p = err_from_is_err_and c.from_residual.result c.from_residual.ensures.1 in
+    rw (p.1, p.2, c.if-strict.true)
+    (body_refused c.args.part.now c.args.start c.args.len (omega arith) (omega arith) c.in_err-judge_text.field-0.0 (asked (goal.at.returns-in_err-judge_text c).After-judge_text ∙ c.in_err-judge_text.was))
 
-pub returns-then-len-gt-TEXT_BYTES : goal.returns-then-len-gt-TEXT_BYTES
-returns-then-len-gt-TEXT_BYTES c = rw (body_long c.args.strict c.args.part.now c.args.start c.args.len (omega arith) (omega arith))
-
-pub returns-then-not-strict : goal.returns-then-not-strict
-returns-then-not-strict c =
-    body_placed c.args.strict c.args.part.now c.args.start c.args.len (omega arith) (omega arith) (omega arith) (unchecked c.args.strict _ (ap not c.if-not-strict.true))
-
-pub returns-in-Fits : goal.returns-in-Fits
-returns-in-Fits c =
-    body_placed c.args.strict c.args.part.now c.args.start c.args.len (omega arith) (omega arith) (omega arith)
-    (judged_fits c.args.strict (text (goal.at.returns-in-Fits c).After-judge_text) (ap not c.if-not-strict.false) (sym (asked (goal.at.returns-in-Fits c).After-judge_text) ∙ c.in-Fits.is))
-
-pub returns-in-Malformed : goal.returns-in-Malformed
-returns-in-Malformed c =
-    rw (body_bad c.args.strict c.args.part.now c.args.start c.args.len (omega arith) (omega arith) (judged_malformed c.args.strict (text (goal.at.returns-in-Malformed c).After-judge_text) (ap not c.if-not-strict.false) (sym (asked (goal.at.returns-in-Malformed c).After-judge_text) ∙ c.in-Malformed.is)))
-
-pub returns-in-ManyCharacters : goal.returns-in-ManyCharacters
-returns-in-ManyCharacters c =
-    rw (body_many c.args.strict c.args.part.now c.args.start c.args.len (omega arith) (omega arith) (judged_many c.args.strict (text (goal.at.returns-in-ManyCharacters c).After-judge_text) (ap not c.if-not-strict.false) (sym (asked (goal.at.returns-in-ManyCharacters c).After-judge_text) ∙ c.in-ManyCharacters.is)))
+pub returns-in_ok-judge_text : goal.returns-in_ok-judge_text
+returns-in_ok-judge_text c =
+    rw c.if-strict.true
+    (body_placed true c.args.part.now c.args.start c.args.len (omega arith) (omega arith) (omega arith)
+    (judged_fits (text (goal.at.returns-in_ok-judge_text c).After-judge_text) (asked (goal.at.returns-in_ok-judge_text c).After-judge_text ∙ c.in_ok-judge_text.was)))

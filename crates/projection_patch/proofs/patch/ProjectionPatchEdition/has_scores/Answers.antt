@@ -1,6 +1,5 @@
 -- `projection_patch::patch::has_scores` meets its contract: each edition's kinds are asked.
 use mathlib.Core.Path.{sym, ap}
-use borrow.Author.Rules.{rules}
 use Rattle.spec_patch.specs.Edition.{added_kinds, kinds, has_kind}
 use Rattle.projection_patch.specs.Meaning.{edition_of}
 use Rattle.projection_patch.specs.declared.patch.ProjectionPatchEdition.{ProjectionPatchEdition}

@@ -1,6 +1,5 @@
 -- `projection_patch::read_values::number` meets its contract: each fault has its number.
 use mathlib.Core.Path.{sym, ap}
-use borrow.Author.Rules.{rules}
 use Rattle.spec_patch.specs.Reader.{fault_number}
 use Rattle.projection_patch.specs.ReadAnswers.{fault_of}
 use Rattle.projection_patch.specs.declared.read_values.ProjectionPatchReadFault.{ProjectionPatchReadFault}
