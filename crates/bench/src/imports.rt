@@ -1,8 +1,8 @@
 // Bringing in of one term list.
 use projection_patch::contract_primitives::{Epoch, Revision, StaticDocumentId};
 use projection_patch::patch::{
-    OptionalSurfaceId, ProjectionPatchEdition, ProjectionPatchEnvelope, ProjectionPatchId,
-    ProjectionPatchSequence, ProjectionPatchSet, ProjectionPatchStreamId,
+    ProjectionPatchEdition, ProjectionPatchEnvelope, ProjectionPatchId, ProjectionPatchSequence,
+    ProjectionPatchSet, ProjectionPatchStreamId,
 };
 
 // The length of the set, or the refusal's number.
@@ -11,7 +11,7 @@ fn import(list: &[u8], sequence: u64, out: &mut [u8]) -> u64 {
         patch_id: ProjectionPatchId::new(1),
         stream_id: ProjectionPatchStreamId::new(1),
         document_id: StaticDocumentId::new(1),
-        surface_id: OptionalSurfaceId::None,
+        surface_id: None,
         previous_projection_revision: Revision::new(0),
         projection_revision: Revision::new(1),
         epoch: Epoch::new(1),

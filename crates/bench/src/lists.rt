@@ -4,9 +4,9 @@ use patch_writer::set::write_patch_set;
 use projection_patch::binding_graph::{BindingSlot, BindingTarget};
 use projection_patch::contract_primitives::{Epoch, Revision, StaticDocumentId, StaticNodeId};
 use projection_patch::patch::{
-    OperationPlace, OptionalSurfaceId, ProjectionPatch, ProjectionPatchEdition,
-    ProjectionPatchEnvelope, ProjectionPatchId, ProjectionPatchOperation, ProjectionPatchSequence,
-    ProjectionPatchSet, ProjectionPatchStreamId, ProjectionPatchValue,
+    OperationPlace, ProjectionPatch, ProjectionPatchEdition, ProjectionPatchEnvelope,
+    ProjectionPatchId, ProjectionPatchOperation, ProjectionPatchSequence, ProjectionPatchSet,
+    ProjectionPatchStreamId, ProjectionPatchValue,
 };
 
 fn head() -> ProjectionPatch {
@@ -14,7 +14,7 @@ fn head() -> ProjectionPatch {
         patch_id: ProjectionPatchId::new(100),
         stream_id: ProjectionPatchStreamId::new(1),
         document_id: StaticDocumentId::new(1),
-        surface_id: OptionalSurfaceId::None,
+        surface_id: None,
         previous_projection_revision: Revision::new(0),
         projection_revision: Revision::new(1),
         epoch: Epoch::new(1),

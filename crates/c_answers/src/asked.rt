@@ -6,8 +6,8 @@ ghost use Rattle.c_answers.specs.Asked.{command_at, edition_at, is_edition, surf
 
 use projection_patch::contract_primitives::{Epoch, Revision, StaticDocumentId, StaticSurfaceId};
 use projection_patch::patch::{
-    OptionalSurfaceId, ProjectionPatchEdition, ProjectionPatchEnvelope, ProjectionPatchId,
-    ProjectionPatchSequence, ProjectionPatchStreamId,
+    ProjectionPatchEdition, ProjectionPatchEnvelope, ProjectionPatchId, ProjectionPatchSequence,
+    ProjectionPatchStreamId,
 };
 use session_lifecycle::lifecycle::{ShellLifecycleCommand, ShellLifecycleStimulus};
 
@@ -44,13 +44,13 @@ pub fn is_edition(edition: u64) -> bool
 }
 
 // The surface of a patch, if the first number is not 0.
-fn surface_at(has: u64, surface: u64) -> OptionalSurfaceId
+fn surface_at(has: u64, surface: u64) -> Option<StaticSurfaceId>
     ensures { surface_of result ≡ surface_at has surface }
 {
     if has == 0 {
-        return OptionalSurfaceId::None;
+        return None;
     }
-    OptionalSurfaceId::Some(StaticSurfaceId::new(surface))
+    Some(StaticSurfaceId::new(surface))
 }
 
 pub fn envelope_at(

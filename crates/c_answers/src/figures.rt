@@ -1,13 +1,12 @@
 // Where a rule was broken, and the figures that it went by.
 ghost use Rattle.std.specs.Prelude.{◌≡◌};
-ghost use Rattle.projection_patch.specs.ReadAnswers.{optional_of};
+ghost use Rattle.spec_lists.specs.Options.{optional_of};
 ghost use Rattle.patch_locate.specs.Answers.{inside_of};
 ghost use Rattle.session_explain.specs.Meaning.{finding_place_of, printed_reason_of};
 ghost use Rattle.c_answers.specs.Explanations.{in_no_patch, in_one_patch, in_one_operation, inside_place, findings_place, rule_place, figures_to, taken_figure, rule_figures};
 
 use check_set::check_set::CheckPlace;
 use patch_locate::rules::Inside;
-use projection_patch::read_values::OptionalNumber;
 use session_explain::reasons::BatchReason;
 
 // The patch and the operation that a rule tells, by their indices from 0: 1 where it tells one.
@@ -118,12 +117,12 @@ pub(crate) fn figures(
     }
 }
 
-fn taken_figure(takes: OptionalNumber) -> GeysertrayFigures
+fn taken_figure(takes: Option<u64>) -> GeysertrayFigures
     ensures { result ≡ taken_figure (optional_of takes) }
 {
     match takes {
-        OptionalNumber::None => figures(0, 0, 0, 0, 0),
-        OptionalNumber::Some(n) => figures(1, n, 0, 0, 0),
+        None => figures(0, 0, 0, 0, 0),
+        Some(n) => figures(1, n, 0, 0, 0),
     }
 }
 

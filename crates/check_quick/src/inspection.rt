@@ -10,7 +10,7 @@ ghost use Rattle.check_quick.specs.QuickAnswers.{inspection_answer, quick_end_an
 use crate::quick_patches;
 use crate::quick_patches::{PatchCheckRead, PreviousEnvelope};
 use projection_patch::patch::{ProjectionPatchEdition, ProjectionPatchSet};
-use projection_patch::read_values::{CountRead, ProjectionPatchReadFault};
+use projection_patch::read_values::ProjectionPatchReadFault;
 
 // Most sets are this short, and little is cleared for their ids.
 const SHORT_BYTES: usize = 512;
@@ -117,10 +117,10 @@ fn inspect_with(
         return SetInspection::Refused(ProjectionPatchReadFault::OverCapacity);
     }
     match patch_sets::read_heading(set, edition) {
-        CountRead::Read(count, at) => {
+        Ok((count, at)) => {
             inspect_patches(set, edition, at, count, nodes, bindings, collections, ids)
         }
-        CountRead::Refused(fault) => SetInspection::Refused(fault),
+        Err(fault) => SetInspection::Refused(fault),
     }
 }
 

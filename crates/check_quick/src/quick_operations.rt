@@ -14,7 +14,6 @@ use crate::anchors;
 use check_targets::MutationTarget;
 use projection_patch::patch::ProjectionPatchEdition;
 use projection_patch::read_operations;
-use projection_patch::read_operations::OperationRead;
 use projection_patch::read_values::ProjectionPatchReadFault;
 
 // Whether some operation was found fault with, and how many have an absent target.
@@ -81,7 +80,7 @@ fn check_with(
     let mut found = false;
     while 0 < left {
         match read_operations::operation_from(&set[at..], true, edition) {
-            OperationRead::Read(operation, taken) => {
+            Ok((operation, taken)) => {
                 at = at + taken;
                 left = left - 1;
                 let target = check_targets::mutation_target(operation);
@@ -89,7 +88,7 @@ fn check_with(
                 found = operation_found(found, targets, marks, used, target, own);
                 used = used + MutationTarget::NUMBERS;
             }
-            OperationRead::Refused(fault) => {
+            Err(fault) => {
                 return OperationsFound::Refused(fault);
             }
         }
@@ -130,13 +129,13 @@ fn check_one(
         (length set.now) (many 1 (read_operation (edition_of edition)) (drop at set.now)) }
 {
     match read_operations::operation_from(&set[at..], true, edition) {
-        OperationRead::Read(operation, taken) => {
+        Ok((operation, taken)) => {
             let target = check_targets::mutation_target(operation);
             let found = check_targets::before_self(operation);
             let absent = anchors::one_if_absent(nodes, bindings, collections, target);
             OperationsChecked::Read(Tally { found, absent }, at + taken)
         }
-        OperationRead::Refused(fault) => OperationsChecked::Refused(fault),
+        Err(fault) => OperationsChecked::Refused(fault),
     }
 }
 

@@ -9,7 +9,7 @@ ghost use Rattle.check_targets.specs.Targets.{check_target_of, made_of, equal_ta
 ghost use Rattle.check_targets.specs.Marks.{mark_of, Marked};
 
 use projection_patch::contract_primitives::CollectionKey;
-use projection_patch::patch::{OptionalKey, ProjectionPatch, ProjectionPatchOperation};
+use projection_patch::patch::{ProjectionPatch, ProjectionPatchOperation};
 
 // The kind of operation by its canonical number, and the ids that tell it from others of that kind.
 #[derive(Clone, Copy)]
@@ -78,12 +78,12 @@ pub fn mutation_target(operation: ProjectionPatchOperation) -> MutationTarget
 }
 
 // Whether the named neighbour is the key itself.
-fn is_self(key: CollectionKey, before: OptionalKey) -> bool
+fn is_self(key: CollectionKey, before: Option<CollectionKey>) -> bool
     ensures { result ≡ is_self key.0 (before_of before) }
 {
     match before {
-        OptionalKey::None => false,
-        OptionalKey::Some(neighbour) => key.raw() == neighbour.raw(),
+        None => false,
+        Some(neighbour) => key.raw() == neighbour.raw(),
     }
 }
 

@@ -1,3 +1,4 @@
+use projection_patch::contract_primitives::CollectionKey;
 // Positions of entries in a table of the entries of all collections, whose rows begin with the collection and the key.
 ghost use Rattle.std.specs.Prelude.{◌≡◌, List, map, ℕ, ◌≤◌};
 ghost use Rattle.spec_lists.specs.Lists.{All};
@@ -10,8 +11,6 @@ ghost use Rattle.projection_patch.specs.Meaning.{before_of};
 ghost use Rattle.panel_plan.specs.PlanRows.{planned_entry_width, planned_entry_row};
 ghost use Rattle.panel_entries.specs.EntryRows.{KeyedRow};
 ghost use Rattle.panel_entries.specs.Places.{neighbour_of, is_placed, neighbour_key, place_before, PositionWithin, is_itself, place_before_other};
-
-use projection_patch::patch::OptionalKey;
 
 // The position of a collection's key, in rows of any width.
 pub fn find_entry(
@@ -30,21 +29,21 @@ pub fn find_entry(
 }
 
 // Whether a neighbour is named, and its key.
-pub fn has_neighbour(before: OptionalKey) -> bool
+pub fn has_neighbour(before: Option<CollectionKey>) -> bool
     ensures { result ≡ is_placed (before_of before) }
 {
     match before {
-        OptionalKey::None => false,
-        OptionalKey::Some(_) => true,
+        None => false,
+        Some(_) => true,
     }
 }
 
-pub fn neighbour_key(before: OptionalKey) -> u64
+pub fn neighbour_key(before: Option<CollectionKey>) -> u64
     ensures { result ≡ neighbour_key (before_of before) }
 {
     match before {
-        OptionalKey::None => 0,
-        OptionalKey::Some(neighbour) => neighbour.raw(),
+        None => 0,
+        Some(neighbour) => neighbour.raw(),
     }
 }
 
@@ -73,7 +72,7 @@ pub fn place_before(
     table: &[u8],
     count: usize,
     collection: u64,
-    before: OptionalKey,
+    before: Option<CollectionKey>,
 ) -> Option<usize>
     ensures first { (es : List Entry) → All FitsEntry es → Grouped es → HoldsRows planned_entry_width count table.now (map planned_entry_row es)
         → result ≡ place_before collection (before_of before) es }
@@ -88,12 +87,12 @@ pub fn place_before(
     )
 }
 
-fn is_itself(key: u64, before: OptionalKey) -> bool
+fn is_itself(key: u64, before: Option<CollectionKey>) -> bool
     ensures { result ≡ is_itself key (before_of before) }
 {
     match before {
-        OptionalKey::None => false,
-        OptionalKey::Some(neighbour) => neighbour.raw() == key,
+        None => false,
+        Some(neighbour) => neighbour.raw() == key,
     }
 }
 
@@ -103,7 +102,7 @@ pub fn place_before_other(
     count: usize,
     collection: u64,
     key: u64,
-    before: OptionalKey,
+    before: Option<CollectionKey>,
 ) -> Option<usize>
     ensures first { (es : List Entry) → All FitsEntry es → Grouped es → HoldsRows planned_entry_width count table.now (map planned_entry_row es)
         → result ≡ place_before_other collection key (before_of before) es }

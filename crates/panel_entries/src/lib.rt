@@ -19,7 +19,7 @@ ghost use Rattle.panel_bindings.specs.Change.{Became};
 ghost use Rattle.panel_entries.specs.Places.{without_at};
 
 use local_projection_state::LocalProjectionApplicationError;
-use projection_patch::patch::OptionalKey;
+use projection_patch::contract_primitives::CollectionKey;
 
 // Replaces the mark and the source of a key, in its place.
 pub fn update_entry(
@@ -69,7 +69,7 @@ pub fn insert_entry(
     count: usize,
     collection: u64,
     key: u64,
-    before: OptionalKey,
+    before: Option<CollectionKey>,
     mark: u64,
     source: u64,
 ) -> Result<usize, LocalProjectionApplicationError>
@@ -118,7 +118,7 @@ pub fn move_entry(
     count: usize,
     collection: u64,
     key: u64,
-    before: OptionalKey,
+    before: Option<CollectionKey>,
 ) -> Result<usize, LocalProjectionApplicationError>
     ensures made { (p : Projection) → PlannedEntries count table.old p.entries → Valid p
         → Became (λ n q. PlannedEntries n table.new q.entries) result

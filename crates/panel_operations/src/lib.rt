@@ -18,7 +18,7 @@ ghost use Rattle.panel_operations.specs.OperationChange.{planned_operation, Bind
 use local_projection_state::{LocalProjectionApplicationError, ProjectionCounts};
 use projection_patch::binding_graph::BindingTarget;
 use projection_patch::contract_primitives::{CollectionKey, StaticNodeId};
-use projection_patch::patch::{OptionalKey, ProjectionNodeAvailability, ProjectionPatchOperation};
+use projection_patch::patch::{ProjectionNodeAvailability, ProjectionPatchOperation};
 
 fn set_binding(
     table: &mut [u8],
@@ -71,7 +71,7 @@ fn insert(
     counts: ProjectionCounts,
     collection: StaticNodeId,
     key: CollectionKey,
-    before: OptionalKey,
+    before: Option<CollectionKey>,
     patch: u64,
     source: u64,
 ) -> Result<ProjectionCounts, LocalProjectionApplicationError>
@@ -132,7 +132,7 @@ fn move_before(
     counts: ProjectionCounts,
     collection: StaticNodeId,
     key: CollectionKey,
-    before: OptionalKey,
+    before: Option<CollectionKey>,
 ) -> Result<ProjectionCounts, LocalProjectionApplicationError>
     ensures { EntriesChanged counts table.old table.new
         (λ p. apply_move p (before_of before) (find_first (is_entry collection.0 key.0) p.entries)) result }

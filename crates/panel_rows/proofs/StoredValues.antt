@@ -1,4 +1,5 @@
 -- A stored value is read back: its text stands in the row, and copied over zeros it is padded.
+use Rattle.std.specs.Prelude as code
 use Prim.Native.Nat.{ℕ, ◌+◌, ◌-◌, ◌≤◌}
 use mathlib.Core.Path.{◌≡◌, refl, sym, ap, ◌∙◌, subst}
 use mathlib.Core.Bool.{true, false}
@@ -23,8 +24,6 @@ use Rattle.projection_patch.specs.declared.patch.ProjectionQuadState.{Projection
 use Rattle.projection_patch.specs.declared.patch.ProjectionQuadState.TheVariants as states
 use Rattle.projection_patch.specs.declared.patch.ProjectionPatchValue.{ProjectionPatchValue}
 use Rattle.projection_patch.specs.declared.read_values.ProjectionPatchReadFault.{ProjectionPatchReadFault}
-use Rattle.projection_patch.specs.declared.read_values.ValueRead.{ValueRead}
-use Rattle.projection_patch.specs.declared.read_values.ValueRead.TheVariants as value_read
 use Rattle.patch_part_writer.specs.Extent.{value_text, WithinTexts}
 use Rattle.panel_rows.specs.Rows.{value_width, padded}
 use Rattle.panel_rows.specs.RowsLaws.{read_padded}
@@ -96,15 +95,15 @@ module _ (row : List ℕ) (at : ℕ) where
   value_there (unsigned x) h e = (record { inside = omega arith; short = omega arith }, refl)
   value_there (score n) h e = (record { inside = omega arith; short = omega arith }, refl)
 
-  module _ (r : ValueRead) (answer_is : r ≡ value_answer (length row) (read_value_by false v2 (drop at row))) (v : Value) (h : Storable v) (e : drop at row ≡ padded v) where
-    reads : r ≡ value_read.Read (value_to (end_of row v) v) (end_of row v)
+  module _ (r : code.Result (ProjectionPatchValue × ℕ) ProjectionPatchReadFault) (answer_is : r ≡ value_answer (length row) (read_value_by false v2 (drop at row))) (v : Value) (h : Storable v) (e : drop at row ≡ padded v) where
+    reads : r ≡ code.Ok (value_to (end_of row v) v, end_of row v)
     reads = answer_is ∙ ap (λ (l : List ℕ). value_answer (length row) (read_value_by false v2 l)) e ∙ ap (value_answer (length row)) (read_padded false v h)
 
-    pub value_read_back : (x : ProjectionPatchValue) (end : ℕ) → r ≡ value_read.Read x end → WithinTexts row (value_text x) × (value_of row x ≡ v)
+    pub value_read_back : (x : ProjectionPatchValue) (end : ℕ) → r ≡ code.Ok (x, end) → WithinTexts row (value_text x) × (value_of row x ≡ v)
     value_read_back x end f =
-        let both : value_read.Read (value_to (end_of row v) v) (end_of row v) ≡ value_read.Read x end = sym reads ∙ f in
-        let same : value_to (end_of row v) v ≡ x = cc both in
+        let both : ◌≡◌ {A = ProjectionPatchValue × ℕ} (value_to (end_of row v) v, end_of row v) (x, end) = cc (sym reads ∙ f) in
+        let same : value_to (end_of row v) v ≡ x = ap (λ (z : ProjectionPatchValue × ℕ). z.0) both in
         subst (λ y. WithinTexts row (value_text y) × (value_of row y ≡ v)) same (value_there v h e)
 
-    pub value_not_refused : (f : ProjectionPatchReadFault) → r ≡ value_read.Refused f → ⊥
+    pub value_not_refused : (f : ProjectionPatchReadFault) → r ≡ code.Err f → ⊥
     value_not_refused f q = let z : ◌≡◌ {A = ℕ} 0 1 = cc (sym q ∙ reads) in omega arith

@@ -10,7 +10,6 @@ ghost use Rattle.panel_rows.specs.Lookup.{quad_number, no_value, found_quad, fou
 
 use projection_patch::patch::{ProjectionPatchEdition, ProjectionPatchValue, ProjectionQuadState};
 use projection_patch::read_values;
-use projection_patch::read_values::ValueRead;
 
 // A value with its mark, the id of the patch that last gave it, or none. The kind is that of canonical bytes: 1 quad,
 // 2 signed, 3 text, 4 unsigned, 5 score, whose number stands in unsigned.
@@ -165,7 +164,7 @@ pub fn stored_value(row: &[u8], at: usize, mark: u64) -> ValueLookup
     ensures { (v : model.Value) → Storable v → drop at row.now ≡ padded v → result ≡ found_value mark v }
 {
     match read_values::value_at(row, at, false, ProjectionPatchEdition::V2) {
-        ValueRead::Read(value, _) => value_lookup(row, mark, value),
-        ValueRead::Refused(_) => no_value(),
+        Ok((value, _)) => value_lookup(row, mark, value),
+        Err(_) => no_value(),
     }
 }

@@ -19,7 +19,7 @@ use local_projection_state::{
     LocalProjectionApplicationError, LocalProjectionState, ProjectionCounts,
 };
 use patch_walk::{SetCursor, SetStep};
-use projection_patch::patch::{OptionalKey, ProjectionPatchEdition, ProjectionPatchOperation};
+use projection_patch::patch::{ProjectionPatchEdition, ProjectionPatchOperation};
 use projection_patch::read_values::ProjectionPatchReadFault;
 use projection_patch::widths;
 
@@ -40,8 +40,8 @@ fn value_offset(operation: ProjectionPatchOperation) -> usize
         ProjectionPatchOperation::SetBindingValue { .. } => widths::PAST_SLOT,
         ProjectionPatchOperation::SetNodeAvailability { .. } => 0,
         ProjectionPatchOperation::CollectionInsert { before, .. } => match before {
-            OptionalKey::None => widths::PAST_NO_NEIGHBOUR,
-            OptionalKey::Some(_) => widths::PAST_NEIGHBOUR,
+            None => widths::PAST_NO_NEIGHBOUR,
+            Some(_) => widths::PAST_NEIGHBOUR,
         },
         ProjectionPatchOperation::CollectionUpdate { .. } => widths::PAST_KEY,
         ProjectionPatchOperation::CollectionRemove { .. } => 0,

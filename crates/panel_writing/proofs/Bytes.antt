@@ -1,4 +1,6 @@
 -- What the reader of a value's shape answered, as the bytes of the value.
+use Rattle.projection_patch.specs.Meaning.{value_to}
+use Rattle.std.specs.Prelude as code
 use Prim.Native.Nat.{ℕ, zero, suc, ◌+◌, ◌-◌, ◌*◌, ◌≤◌, ◌<◌}
 use mathlib.Core.Path.{◌≡◌, refl, sym, ap, ap₂, ◌∙◌}
 use mathlib.Core.Logic.{◌⊎◌, inl, inr}
@@ -18,7 +20,6 @@ use Rattle.spec_patch.specs.Reader.{Result, read, refused}
 use Rattle.projection_patch.specs.ReadAnswers.{value_answer}
 use Rattle.projection_patch.specs.declared.patch.ProjectionPatchValue.{ProjectionPatchValue}
 use Rattle.projection_patch.specs.declared.read_values.ProjectionPatchReadFault.{ProjectionPatchReadFault}
-use Rattle.projection_patch.specs.declared.read_values.ValueRead.TheVariants as value_read
 use Rattle.bytes_records.specs.Moves.{overwrite_rows}
 use Rattle.panel_rows.specs.Rows.{value_width, field_at}
 use Rattle.panel_rows.specs.RowsLaws.{length_written}
@@ -27,13 +28,14 @@ use Rattle.panel_writing.specs.Writing.{row_at, bytes_read, source_row, planned_
 use Rattle.panel_writing.specs.WritingLaws.{source_old}
 
 module _ (set : List ℕ) (at : ℕ) where
-  pub bytes_of_read : (r : Result Value) (x : ProjectionPatchValue) (end : ℕ) → value_read.Read x end ≡ value_answer (length set) r → drop at (take end set) ≡ bytes_read set at r
+  pub bytes_of_read : (r : Result Value) (x : ProjectionPatchValue) (end : ℕ) → code.Ok (x, end) ≡ value_answer (length set) r → drop at (take end set) ≡ bytes_read set at r
   bytes_of_read (read v rest) x end e =
-      let same : end ≡ length set - length rest = cc in
+      let both : ◌≡◌ {A = ProjectionPatchValue × ℕ} (x, end) (value_to (length set - length rest) v, length set - length rest) = cc e in
+      let same : end ≡ length set - length rest = ap (λ (z : ProjectionPatchValue × ℕ). z.1) both in
       ap (λ (n : ℕ). drop at (take n set)) same
   bytes_of_read (refused f) x end e = absurd (let z : ◌≡◌ {A = ℕ} 0 1 = cc in omega arith)
 
-  pub bytes_of_refused : (r : Result Value) (f : ProjectionPatchReadFault) → value_read.Refused f ≡ value_answer (length set) r → [] ≡ bytes_read set at r
+  pub bytes_of_refused : (r : Result Value) (f : ProjectionPatchReadFault) → code.Err f ≡ value_answer (length set) r → [] ≡ bytes_read set at r
   bytes_of_refused (read v rest) f e = absurd (let z : ◌≡◌ {A = ℕ} 0 1 = cc in omega arith)
   bytes_of_refused (refused g) f e = refl
 

@@ -24,7 +24,6 @@ use panel_plan::SOURCE_WIDTH;
 use panel_rows::{fields, written};
 use projection_patch::patch::ProjectionPatchEdition;
 use projection_patch::read_values;
-use projection_patch::read_values::ValueRead;
 
 // The row at a position of a table, or what there is of it.
 fn row_at(table: &[u8], width: usize, i: usize) -> &[u8]
@@ -39,8 +38,8 @@ fn value_bytes(set: &[u8], edition: ProjectionPatchEdition, at: usize) -> &[u8]
     ensures { result.now ≡ value_bytes (edition_of edition) set.now at }
 {
     match read_values::value_at(set, at, false, edition) {
-        ValueRead::Read(_, end) => fields::value_part(fields::key_part(set, end), at),
-        ValueRead::Refused(_) => &set[..0],
+        Ok((_, end)) => fields::value_part(fields::key_part(set, end), at),
+        Err(_) => &set[..0],
     }
 }
 

@@ -1,11 +1,11 @@
 -- What the pass over the lines tells: how many there are, the bytes of their operations, and whether a key occurs twice.
+use Rattle.std.specs.Prelude as code
 use Rattle.std.specs.Prelude.{ℕ, ◌+◌, ◌*◌, ◌≤◌, ◌≡◌, Bool, false, ◌||◌, length, Result, Ok, Err}
 use mathlib.Core.List.{List, [], map, flat_map}
 use Rattle.spec_patch.specs.Sizes.{patch_operations, text_bytes}
 use Rattle.spec_patch.specs.Encode.{encode_operation}
 use Rattle.spec_import.specs.Import.{Term, lines, Terms, terms, faulty, read_terms, insert_of}
 use Rattle.projection_patch.specs.Meaning.{node_to, key_to}
-use Rattle.projection_patch.specs.declared.patch.OptionalKey.TheVariants as key
 use Rattle.projection_patch.specs.declared.patch.ProjectionPatchValue.TheVariants.{Text}
 use Rattle.projection_patch.specs.declared.patch.ProjectionPatchOperation.{ProjectionPatchOperation}
 use Rattle.projection_patch.specs.declared.patch.ProjectionPatchOperation.TheVariants.{CollectionInsert}
@@ -16,7 +16,7 @@ use Rattle.patch_import.specs.declared.survey.LineSurvey.{LineSurvey}
 
 -- an insert of the text at a place of the list, before no neighbour
 abbrev pub insertion_of : (collection k start len : ℕ) → ProjectionPatchOperation
-insertion_of collection k start len = CollectionInsert (node_to collection) (key_to k) key.None (Text start len)
+insertion_of collection k start len = CollectionInsert (node_to collection) (key_to k) code.None (Text start len)
 
 -- three numbers for the target of each operation of a patch
 abbrev pub patch_numbers : ℕ

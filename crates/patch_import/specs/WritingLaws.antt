@@ -61,7 +61,7 @@ module _ {list : List ℕ} {at : ℕ} {rest : List Term} (left : TermsLeft list 
   left_holds more = go (term_answer (first_term_line (drop at list))) refl
     where
       go : (r : Result (ℕ × ℕ) TermRefusal) → term_answer (first_term_line (drop at list)) ≡ r → HoldsTerm (drop at list)
-      go (Ok (k , start)) e = record { key = k; start = start; is = e }
+      go (Ok (k, start)) e = record { key = k; start = start; is = e }
       go (Err reason.OtherForm) e = left_other more (ap (line_to at (at + length (first_term_line (drop at list)))) e)
       go (Err reason.OverCapacity) e = left_over more (ap (line_to at (at + length (first_term_line (drop at list)))) e)
 

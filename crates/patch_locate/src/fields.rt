@@ -10,7 +10,7 @@ ghost use Rattle.patch_locate.specs.Fields.{field_at_most, text_after, field_of,
 
 use crate::rules::{Inside, Located, ReadingRule};
 use projection_patch::patch::{ProjectionPatchEdition, ProjectionPatchValue};
-use projection_patch::text_rule::TextJudgement;
+use projection_patch::text_rule::TextFault;
 use projection_patch::{read_values, text_rule};
 
 // A stop at a position of so many bytes; behind the last one it stands at the end.
@@ -76,9 +76,9 @@ fn text_from(part: &[u8], at: usize, len: usize) -> Located
     }
     let end = start + len;
     match text_rule::judge_text(read_values::text_of(part, start, end)) {
-        TextJudgement::Fits => Located::Past(end),
-        TextJudgement::Malformed => Located::Stop(ReadingRule::NotUtf8, Inside::Outside, start),
-        TextJudgement::ManyCharacters => Located::Stop(
+        Ok(()) => Located::Past(end),
+        Err(TextFault::Malformed) => Located::Stop(ReadingRule::NotUtf8, Inside::Outside, start),
+        Err(TextFault::ManyCharacters) => Located::Stop(
             ReadingRule::CharacterCount,
             Inside::Outside,
             start,

@@ -1,11 +1,10 @@
 -- How many bytes each part of a patch list takes, by the text lengths that it states; and where its texts stand.
+use Rattle.std.specs.Prelude as code
+use Rattle.projection_patch.specs.declared.contract_primitives.StaticSurfaceId.{StaticSurfaceId}
+use Rattle.projection_patch.specs.declared.contract_primitives.CollectionKey.{CollectionKey}
 use Rattle.std.specs.Prelude.{ℕ, ◌+◌, ◌≤◌, List, length}
 use Rattle.spec_patch.specs.Sizes.{text_bytes}
 use Rattle.projection_patch.specs.Widths.{tagged_bytes, past_slot, past_key}
-use Rattle.projection_patch.specs.declared.patch.OptionalSurfaceId.{OptionalSurfaceId}
-use Rattle.projection_patch.specs.declared.patch.OptionalSurfaceId.TheVariants as surface
-use Rattle.projection_patch.specs.declared.patch.OptionalKey.{OptionalKey}
-use Rattle.projection_patch.specs.declared.patch.OptionalKey.TheVariants as key
 use Rattle.projection_patch.specs.declared.patch.ProjectionPatch.{ProjectionPatch}
 use Rattle.projection_patch.specs.declared.patch.ProjectionPatchValue.{ProjectionPatchValue}
 use Rattle.projection_patch.specs.declared.patch.ProjectionPatchValue.TheVariants.{Quad, SignedScalar, UnsignedScalar, Text, Score}
@@ -14,13 +13,13 @@ use Rattle.projection_patch.specs.declared.patch.ProjectionPatchOperation.TheVar
 use Rattle.patch_part_writer.specs.declared.extent.TextPlace.{TextPlace}
 
 -- an optional number is byte 0, or 1 and the number
-abbrev pub before_size : OptionalKey → ℕ
-before_size key.None = 1
-before_size (key.Some k) = tagged_bytes
+abbrev pub before_size : code.Option CollectionKey → ℕ
+before_size code.None = 1
+before_size (code.Some k) = tagged_bytes
 
-abbrev pub surface_size : OptionalSurfaceId → ℕ
-surface_size surface.None = 1
-surface_size (surface.Some s) = tagged_bytes
+abbrev pub surface_size : code.Option StaticSurfaceId → ℕ
+surface_size code.None = 1
+surface_size (code.Some s) = tagged_bytes
 
 -- a patch's envelope and its operation count
 abbrev pub head_size : ProjectionPatch → ℕ

@@ -1,4 +1,7 @@
 -- The bytes of a part of a patch list are as many as its extent says, where its text stands within the texts.
+use Rattle.std.specs.Prelude as code
+use Rattle.projection_patch.specs.declared.contract_primitives.StaticSurfaceId.{StaticSurfaceId}
+use Rattle.projection_patch.specs.declared.contract_primitives.CollectionKey.{CollectionKey}
 use Rattle.std.specs.Prelude.{ℕ, ◌+◌, ◌≤◌, ◌≡◌, refl, List, ◌++◌, length, take, drop}
 use Rattle.std.proofs.Common.{arith, length-append, length-drop, length-take-le}
 use Rattle.spec_lists.proofs.BytesLaws.{length_little_endian}
@@ -7,10 +10,6 @@ use Rattle.spec_patch.specs.Edition.{Edition, letters}
 use Rattle.spec_patch.specs.Encode.{u32, encode_optional, encode_text, kind_of, value_body, encode_value, encode_operation, encode_envelope, heading}
 use Rattle.projection_patch.specs.Widths.{tagged_bytes}
 use Rattle.projection_patch.specs.Meaning.{before_of, surface_of, value_of, operation_of, envelope_of}
-use Rattle.projection_patch.specs.declared.patch.OptionalSurfaceId.{OptionalSurfaceId}
-use Rattle.projection_patch.specs.declared.patch.OptionalSurfaceId.TheVariants as surface
-use Rattle.projection_patch.specs.declared.patch.OptionalKey.{OptionalKey}
-use Rattle.projection_patch.specs.declared.patch.OptionalKey.TheVariants as key
 use Rattle.projection_patch.specs.declared.patch.ProjectionPatch.{ProjectionPatch}
 use Rattle.projection_patch.specs.declared.patch.ProjectionPatchValue.{ProjectionPatchValue}
 use Rattle.projection_patch.specs.declared.patch.ProjectionPatchValue.TheVariants.{Quad, SignedScalar, UnsignedScalar, Text, Score}
@@ -18,15 +17,15 @@ use Rattle.projection_patch.specs.declared.patch.ProjectionPatchOperation.{Proje
 use Rattle.projection_patch.specs.declared.patch.ProjectionPatchOperation.TheVariants.{SetBindingValue, SetNodeAvailability, CollectionInsert, CollectionUpdate, CollectionRemove, CollectionMove}
 use Rattle.patch_part_writer.specs.Extent.{before_size, surface_size, head_size, value_size, operation_size, value_text, operation_text}
 
-pub length_before : (b : OptionalKey) → length (encode_optional (before_of b)) ≡ before_size b
+pub length_before : (b : code.Option CollectionKey) → length (encode_optional (before_of b)) ≡ before_size b
 unfolding encode_optional
-length_before key.None = refl
-length_before (key.Some k) = simp length_little_endian
+length_before code.None = refl
+length_before (code.Some k) = simp length_little_endian
 
-pub length_surface : (s : OptionalSurfaceId) → length (encode_optional (surface_of s)) ≡ surface_size s
+pub length_surface : (s : code.Option StaticSurfaceId) → length (encode_optional (surface_of s)) ≡ surface_size s
 unfolding encode_optional
-length_surface surface.None = refl
-length_surface (surface.Some s) = simp length_little_endian
+length_surface code.None = refl
+length_surface (code.Some s) = simp length_little_endian
 
 pub length_heading : (ed : Edition) (count : ℕ) → length (heading ed ++ u32 count) ≡ 35
 unfolding heading letters
@@ -60,13 +59,13 @@ length_operation texts (CollectionRemove c k) inside = simp (length-append, leng
 length_operation texts (CollectionMove c k b) inside = simp (length-append, length_little_endian) (omega (arith, length_before b))
 
 -- what an operation takes at most
-pub before_small : (b : OptionalKey) → before_size b ≤ tagged_bytes
-before_small key.None = omega arith
-before_small (key.Some k) = omega arith
+pub before_small : (b : code.Option CollectionKey) → before_size b ≤ tagged_bytes
+before_small code.None = omega arith
+before_small (code.Some k) = omega arith
 
-pub surface_small : (s : OptionalSurfaceId) → surface_size s ≤ tagged_bytes
-surface_small surface.None = omega arith
-surface_small (surface.Some s) = omega arith
+pub surface_small : (s : code.Option StaticSurfaceId) → surface_size s ≤ tagged_bytes
+surface_small code.None = omega arith
+surface_small (code.Some s) = omega arith
 
 pub value_small : (v : ProjectionPatchValue) → (value_text v).len ≤ text_bytes → value_size v ≤ 5 + text_bytes
 value_small (Quad q) short = omega arith

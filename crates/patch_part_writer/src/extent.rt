@@ -4,9 +4,8 @@ ghost use Rattle.spec_patch.specs.Sizes.{text_bytes};
 ghost use Rattle.patch_part_writer.specs.Extent.{before_size, surface_size, head_size, value_size, operation_size, value_text, operation_text};
 ghost use Rattle.patch_part_writer.specs.Parts.{size_within};
 
-use projection_patch::patch::{
-    OptionalKey, OptionalSurfaceId, ProjectionPatch, ProjectionPatchOperation, ProjectionPatchValue,
-};
+use projection_patch::contract_primitives::{CollectionKey, StaticSurfaceId};
+use projection_patch::patch::{ProjectionPatch, ProjectionPatchOperation, ProjectionPatchValue};
 use projection_patch::widths;
 
 // The bytes of a set's heading with its patch count.
@@ -66,12 +65,12 @@ pub fn operation_text(operation: ProjectionPatchOperation) -> TextPlace
     }
 }
 
-pub fn before_size(before: OptionalKey) -> usize
+pub fn before_size(before: Option<CollectionKey>) -> usize
     ensures { result ≡ before_size before }
 {
     match before {
-        OptionalKey::None => 1,
-        OptionalKey::Some(_) => widths::TAGGED,
+        None => 1,
+        Some(_) => widths::TAGGED,
     }
 }
 
@@ -133,12 +132,12 @@ pub fn operation_size(operation: ProjectionPatchOperation) -> usize
     kept_size(operation)
 }
 
-pub fn surface_size(surface: OptionalSurfaceId) -> usize
+pub fn surface_size(surface: Option<StaticSurfaceId>) -> usize
     ensures { result ≡ surface_size surface }
 {
     match surface {
-        OptionalSurfaceId::None => 1,
-        OptionalSurfaceId::Some(_) => widths::TAGGED,
+        None => 1,
+        Some(_) => widths::TAGGED,
     }
 }
 

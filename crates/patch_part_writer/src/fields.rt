@@ -9,8 +9,9 @@ ghost use Rattle.projection_patch.specs.Widths.{tagged_bytes, past_key};
 ghost use Rattle.projection_patch.specs.Meaning.{before_of, quad_of, availability_value_of, value_of};
 ghost use Rattle.patch_part_writer.specs.Extent.{before_size, value_size, value_text, WithinTexts};
 
+use projection_patch::contract_primitives::CollectionKey;
 use projection_patch::patch::{
-    OptionalKey, ProjectionNodeAvailability, ProjectionPatchValue, ProjectionQuadState,
+    ProjectionNodeAvailability, ProjectionPatchValue, ProjectionQuadState,
 };
 use projection_patch::{read_values, widths};
 
@@ -59,15 +60,15 @@ fn store_text(out: &mut [u8], at: usize, texts: &[u8], start: usize, len: usize)
     bytes_wire::write_bytes_at(out, at + 5, read_values::text_of(texts, start, start + len));
 }
 
-pub fn store_before(out: &mut [u8], at: usize, before: OptionalKey)
+pub fn store_before(out: &mut [u8], at: usize, before: Option<CollectionKey>)
     requires { at + before_size before ≤ length out.old }
     ensures { out.new ≡ overwrite out.old at (encode_optional (before_of before)) }
 {
     match before {
-        OptionalKey::None => {
+        None => {
             bytes_wire::write_u8_at(out, at, 0);
         }
-        OptionalKey::Some(key) => store_tagged(out, at, 1, key.raw()),
+        Some(key) => store_tagged(out, at, 1, key.raw()),
     }
 }
 

@@ -10,9 +10,8 @@ ghost use Rattle.patch_part_writer.specs.Extent.{surface_size, head_size};
 
 use crate::extent::surface_size;
 use crate::fields::store_tagged;
-use projection_patch::patch::{
-    OptionalSurfaceId, ProjectionPatch, ProjectionPatchEdition, ProjectionPatchEnvelope,
-};
+use projection_patch::contract_primitives::StaticSurfaceId;
+use projection_patch::patch::{ProjectionPatch, ProjectionPatchEdition, ProjectionPatchEnvelope};
 use projection_patch::widths;
 
 // Where the edition's digit stands in a set.
@@ -39,15 +38,15 @@ pub fn store_heading(out: &mut [u8], at: usize, patch_count: usize, edition: Pro
     bytes_wire::write_u32_at(out, at + 31, patch_count as u32);
 }
 
-fn store_surface(out: &mut [u8], at: usize, surface: OptionalSurfaceId)
+fn store_surface(out: &mut [u8], at: usize, surface: Option<StaticSurfaceId>)
     requires { at + surface_size surface ≤ length out.old }
     ensures { out.new ≡ overwrite out.old at (encode_optional (surface_of surface)) }
 {
     match surface {
-        OptionalSurfaceId::None => {
+        None => {
             bytes_wire::write_u8_at(out, at, 0);
         }
-        OptionalSurfaceId::Some(id) => store_tagged(out, at, 1, id.raw()),
+        Some(id) => store_tagged(out, at, 1, id.raw()),
     }
 }
 

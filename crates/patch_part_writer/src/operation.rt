@@ -9,8 +9,8 @@ ghost use Rattle.patch_part_writer.specs.Extent.{before_size, value_size, operat
 use crate::extent::before_size;
 use crate::fields::{availability_byte, store_before, store_entry, store_tagged, store_value};
 use projection_patch::binding_graph::BindingTarget;
-use projection_patch::contract_primitives::StaticNodeId;
-use projection_patch::patch::{OptionalKey, ProjectionPatchOperation, ProjectionPatchValue};
+use projection_patch::contract_primitives::{CollectionKey, StaticNodeId};
+use projection_patch::patch::{ProjectionPatchOperation, ProjectionPatchValue};
 use projection_patch::widths;
 
 fn store_binding(
@@ -43,7 +43,7 @@ fn store_insert(
     at: usize,
     collection: u64,
     key: u64,
-    before: OptionalKey,
+    before: Option<CollectionKey>,
     value: ProjectionPatchValue,
     texts: &[u8],
 )
@@ -75,7 +75,7 @@ fn store_update(
     store_value(out, at + widths::PAST_KEY, value, texts);
 }
 
-fn store_move(out: &mut [u8], at: usize, collection: u64, key: u64, before: OptionalKey)
+fn store_move(out: &mut [u8], at: usize, collection: u64, key: u64, before: Option<CollectionKey>)
     requires { at + (past_key + before_size before) ≤ length out.old }
     ensures { out.new ≡ overwrite out.old at (6 ∷ u64 collection ++ (u64 key ++ encode_optional (before_of before))) }
 {

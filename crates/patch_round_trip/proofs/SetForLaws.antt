@@ -1,4 +1,6 @@
 -- The set for a list stands for it: its places for the operations, its heads for the patches. Its arrays hold every list that fits.
+use Rattle.std.specs.Prelude as code
+use Rattle.projection_patch.specs.declared.contract_primitives.StaticSurfaceId.{StaticSurfaceId}
 use Rattle.std.specs.Prelude.{ℕ, suc, ◌+◌, ◌*◌, ◌≤◌, ◌≡◌, refl, Bool, true, ◌&&◌, drop}
 use Rattle.std.proofs.Common.{sym, ap₂, ◌∙◌, arith, drop_at, drop-drop}
 use Rattle.std.proofs.Math.Path.{ap}
@@ -18,8 +20,6 @@ use Rattle.projection_patch.specs.Meaning.{before_of, surface_to, surface_of, en
 use Rattle.projection_patch.specs.TextLaws.{text_in, text_of, text_within, operation_encoded_back}
 use Rattle.projection_patch.specs.declared.patch.ProjectionPatch.{ProjectionPatch}
 use Rattle.projection_patch.specs.declared.patch.OperationPlace.{OperationPlace}
-use Rattle.projection_patch.specs.declared.patch.OptionalSurfaceId.{OptionalSurfaceId}
-use Rattle.projection_patch.specs.declared.patch.OptionalSurfaceId.TheVariants as surface
 use Rattle.projection_patch.specs.declared.patch.ProjectionPatchValue.{ProjectionPatchValue}
 use Rattle.projection_patch.specs.declared.patch.ProjectionPatchValue.TheVariants.{Quad, SignedScalar, UnsignedScalar, Text, Score}
 use Rattle.projection_patch.specs.declared.patch.ProjectionPatchOperation.{ProjectionPatchOperation}
@@ -142,9 +142,9 @@ unfolding head_sizes
 head_sizes_lem [] = omega arith
 head_sizes_lem (h ∷ hs) = omega (arith, at_least_one h.envelope.surface_id, head_sizes_lem hs)
   where
-    at_least_one : (s : OptionalSurfaceId) → 1 ≤ surface_size s
-    at_least_one surface.None = omega arith
-    at_least_one (surface.Some id) = omega arith
+    at_least_one : (s : code.Option StaticSurfaceId) → 1 ≤ surface_size s
+    at_least_one code.None = omega arith
+    at_least_one (code.Some id) = omega arith
 
 operation_sizes_lem : (ps : List OperationPlace) → 10 * length ps ≤ operation_sizes ps
 unfolding operation_sizes

@@ -10,7 +10,7 @@ use Rattle.patch_terms.specs.Places.{first_term_line}
 
 -- a key, and the position where its text starts
 abbrev pub term_ok : ℕ → ℕ → Result (ℕ × ℕ) TermRefusal
-term_ok k start = Ok (k , start)
+term_ok k start = Ok (k, start)
 
 -- a term's key and the position where its text starts, if it is within its limits
 abbrev pub kept_at : ℕ → Term → Result (ℕ × ℕ) TermRefusal
@@ -34,7 +34,7 @@ line_ok k start len next = Ok (record { key = k; start = start; len = len; next 
 
 -- a line of a list, from a position to its end
 abbrev pub line_to : ℕ → ℕ → Result (ℕ × ℕ) TermRefusal → Result TermLine TermRefusal
-line_to at end (Ok (k , start)) = line_ok k (at + start) (end - (at + start)) (end + 1)
+line_to at end (Ok (k, start)) = line_ok k (at + start) (end - (at + start)) (end + 1)
 line_to at end (Err r) = Err r
 
 -- the line at a position where these bytes begin

@@ -1,4 +1,5 @@
 -- What is answered of a line by where its tabs stand, what its key spells and how its text is judged.
+use Rattle.std.specs.Prelude as code
 use Rattle.std.specs.Prelude.{ℕ, suc, ◌-◌, ◌≤◌, ◌<◌, ◌≡◌, Bool, ◌&&◌, ◌≢◌, eqb, Result, Ok, Err, if◌then◌else◌}
 use Rattle.std.proofs.Math.Path.{refl, sym, ap}
 use Rattle.std.proofs.Common.{◌∙◌, arith}
@@ -15,7 +16,7 @@ use Rattle.spec_listing.proofs.SplitLaws.{split_whole, split_part}
 use Rattle.spec_patch.specs.Sizes.{text_bytes}
 use Rattle.spec_patch.specs.TextRule.{allowed, few_characters}
 use Rattle.projection_patch.specs.TextRule.{judged, judgement}
-use Rattle.projection_patch.specs.declared.text_rule.TextJudgement.TheVariants.{Fits, Malformed, ManyCharacters}
+use Rattle.projection_patch.specs.declared.text_rule.TextFault.TheVariants.{Malformed, ManyCharacters}
 use Rattle.spec_import.specs.Import.{Term, term_with, term_of_fields, read_term, keeps_text}
 use Rattle.spec_import.proofs.FormLaws.{some_part}
 use Rattle.patch_terms.specs.declared.TermRefusal.{TermRefusal}
@@ -27,15 +28,15 @@ use Rattle.patch_terms.specs.Answers.{term_ok, judged_term, term_to, term_answer
 -- ---- the text
 
 module _ (k start : ℕ) (t : List ℕ) where
-  pub term_malformed : judgement t ≡ Malformed → Err OtherForm ≡ judged_term k start t
+  pub term_malformed : judgement t ≡ (code.Err Malformed) → Err OtherForm ≡ judged_term k start t
   term_malformed e = go (allowed true t) refl (few_characters true t) e
     where
-      go : (a : Bool) → allowed true t ≡ a → (f : Bool) → judged a f ≡ Malformed → Err OtherForm ≡ judged_term k start t
+      go : (a : Bool) → allowed true t ≡ a → (f : Bool) → judged a f ≡ (code.Err Malformed) → Err OtherForm ≡ judged_term k start t
       go true h true e = absurd (let z : ◌≡◌ {A = ℕ} 0 1 = cc in omega arith)
       go true h false e = absurd (let z : ◌≡◌ {A = ℕ} 0 1 = cc in omega arith)
       go false h f e = sym (rw h)
 
-  pub term_many : judgement t ≡ ManyCharacters → Err OverCapacity ≡ judged_term k start t
+  pub term_many : judgement t ≡ (code.Err ManyCharacters) → Err OverCapacity ≡ judged_term k start t
   unfolding keeps_text
   term_many e = go (allowed true t) refl (few_characters true t) refl e
     where
@@ -43,16 +44,16 @@ module _ (k start : ℕ) (t : List ℕ) where
       not_both true = refl
       not_both false = refl
 
-      go : (a : Bool) → allowed true t ≡ a → (f : Bool) → few_characters true t ≡ f → judged a f ≡ ManyCharacters → Err OverCapacity ≡ judged_term k start t
+      go : (a : Bool) → allowed true t ≡ a → (f : Bool) → few_characters true t ≡ f → judged a f ≡ (code.Err ManyCharacters) → Err OverCapacity ≡ judged_term k start t
       go true h true g e = absurd (let z : ◌≡◌ {A = ℕ} 0 1 = cc in omega arith)
       go true h false g e = sym (rw (h, g, not_both))
       go false h f g e = absurd (let z : ◌≡◌ {A = ℕ} 0 1 = cc in omega arith)
 
-  module _ (e : judgement t ≡ Fits) where
+  module _ (e : judgement t ≡ (code.Ok tt)) where
     allowed_few : (allowed true t ≡ true) × (few_characters true t ≡ true)
     allowed_few = go (allowed true t) (few_characters true t) e
       where
-        go : (a f : Bool) → judged a f ≡ Fits → (a ≡ true) × (f ≡ true)
+        go : (a f : Bool) → judged a f ≡ (code.Ok tt) → (a ≡ true) × (f ≡ true)
         go true true e = (refl, refl)
         go true false e = absurd (let z : ◌≡◌ {A = ℕ} 0 1 = cc in omega arith)
         go false f e = absurd (let z : ◌≡◌ {A = ℕ} 0 1 = cc in omega arith)

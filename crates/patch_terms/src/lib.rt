@@ -7,7 +7,7 @@ ghost use Rattle.patch_terms.specs.Answers.{judged_term, term_answer, line_answe
 
 use bytes_decimal::ReadU64;
 use projection_patch::patch::ProjectionPatchValue;
-use projection_patch::text_rule::{TextJudgement, judge_text};
+use projection_patch::text_rule::{TextFault, judge_text};
 
 const TAB: u8 = 9;
 
@@ -48,9 +48,9 @@ fn judge_term(key: u64, start: usize, text: &[u8]) -> Result<(u64, usize), TermR
     ensures { result ≡ judged_term key start text.now }
 {
     match judge_text(text) {
-        TextJudgement::Malformed => Err(TermRefusal::OtherForm),
-        TextJudgement::ManyCharacters => Err(TermRefusal::OverCapacity),
-        TextJudgement::Fits => {
+        Err(TextFault::Malformed) => Err(TermRefusal::OtherForm),
+        Err(TextFault::ManyCharacters) => Err(TermRefusal::OverCapacity),
+        Ok(()) => {
             if ProjectionPatchValue::TEXT_BYTES < text.len() {
                 return Err(TermRefusal::OverCapacity);
             }

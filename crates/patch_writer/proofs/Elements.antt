@@ -1,4 +1,5 @@
 -- The first n elements of an array, passed one by one.
+use Rattle.std.specs.Prelude as code
 use Prim.Native.Nat.{ℕ, zero, suc, ◌+◌, ◌≤◌, ◌<◌}
 use mathlib.Core.Path.{◌≡◌, sym, ap, ap₂, ◌∙◌}
 use mathlib.Core.Bool.{Bool, true}
@@ -9,7 +10,6 @@ use lib.ListN.{length, get_or, take, drop}
 use lib.Seq.{drop-cons, get_or-take, length-take-le, drop-length}
 use Rattle.spec_lists.specs.Lists.{all}
 use Rattle.spec_lists.proofs.ListLaws.{and_left, and_right}
-use Rattle.projection_patch.specs.declared.patch.OptionalSurfaceId.TheVariants as surface
 use Rattle.projection_patch.specs.declared.patch.ProjectionQuadState.TheVariants as quad
 use Rattle.projection_patch.specs.declared.patch.ProjectionPatchValue.TheVariants.{Quad}
 use Rattle.projection_patch.specs.declared.patch.ProjectionPatchOperation.TheVariants.{SetBindingValue}
@@ -51,7 +51,7 @@ no_patch = record {
     patch_id = record { 0 = 0 };
     stream_id = record { 0 = 0 };
     document_id = record { 0 = 0 };
-    surface_id = surface.None;
+    surface_id = code.None;
     previous_projection_revision = record { 0 = 0 };
     projection_revision = record { 0 = 0 };
     epoch = record { 0 = 0 };

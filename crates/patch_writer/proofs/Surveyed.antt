@@ -1,4 +1,5 @@
 -- The two passes of a survey: what is known after the first p heads, and after the first i operations.
+use Rattle.std.specs.Prelude as code
 use Prim.Native.Nat.{ℕ, ◌+◌, ◌*◌, ◌≤◌, ◌<◌}
 use mathlib.Core.Path.{◌≡◌, refl, sym, ap, ◌∙◌}
 use mathlib.Core.Bool.{Bool, true, false, ◌&&◌}
@@ -11,8 +12,8 @@ use Rattle.spec_patch.specs.Sizes.{patch_operations, text_bytes}
 use Rattle.spec_patch.specs.Edition.{Edition}
 use Rattle.projection_patch.specs.declared.patch.ProjectionPatch.{ProjectionPatch}
 use Rattle.projection_patch.specs.declared.patch.OperationPlace.{OperationPlace}
-use Rattle.projection_patch.specs.declared.text_rule.TextJudgement.{TextJudgement}
-use Rattle.projection_patch.specs.declared.text_rule.TextJudgement.TheVariants.{Fits, Malformed, ManyCharacters}
+use Rattle.projection_patch.specs.declared.text_rule.TextFault.{TextFault}
+use Rattle.projection_patch.specs.declared.text_rule.TextFault.TheVariants.{Malformed, ManyCharacters}
 use Rattle.projection_patch.specs.TextRule.{judged}
 use Rattle.patch_writer.specs.declared.survey.HeadSurvey.TheVariants as ofHeads
 use Rattle.patch_writer.specs.declared.survey.OperationSurvey.TheVariants as of_operations
@@ -74,19 +75,19 @@ module _ {hs : List ProjectionPatch} {operations bytes p : ℕ} (seen : HeadsSee
 -- ---- operations
 
 -- judgements come together in any order of brackets
-worse_assoc : (a b c : TextJudgement) → worse (worse a b) c ≡ worse a (worse b c)
-worse_assoc Fits b c = refl
-worse_assoc Malformed b c = refl
-worse_assoc ManyCharacters Fits c = refl
-worse_assoc ManyCharacters Malformed c = refl
-worse_assoc ManyCharacters ManyCharacters Fits = refl
-worse_assoc ManyCharacters ManyCharacters Malformed = refl
-worse_assoc ManyCharacters ManyCharacters ManyCharacters = refl
+worse_assoc : (a b c : code.Result (Unit {0}) TextFault) → worse (worse a b) c ≡ worse a (worse b c)
+worse_assoc (code.Ok tt) b c = refl
+worse_assoc (code.Err Malformed) b c = refl
+worse_assoc (code.Err ManyCharacters) (code.Ok tt) c = refl
+worse_assoc (code.Err ManyCharacters) (code.Err Malformed) c = refl
+worse_assoc (code.Err ManyCharacters) (code.Err ManyCharacters) (code.Ok tt) = refl
+worse_assoc (code.Err ManyCharacters) (code.Err ManyCharacters) (code.Err Malformed) = refl
+worse_assoc (code.Err ManyCharacters) (code.Err ManyCharacters) (code.Err ManyCharacters) = refl
 
-worse_fits : (a : TextJudgement) → worse a Fits ≡ a
-worse_fits Fits = refl
-worse_fits Malformed = refl
-worse_fits ManyCharacters = refl
+worse_fits : (a : code.Result (Unit {0}) TextFault) → worse a (code.Ok tt) ≡ a
+worse_fits (code.Ok tt) = refl
+worse_fits (code.Err Malformed) = refl
+worse_fits (code.Err ManyCharacters) = refl
 
 -- the tests of two, one by one and together
 worse_judged : (a b c d : Bool) → worse (judged a b) (judged c d) ≡ judged (a && c) (b && d)
@@ -101,16 +102,16 @@ judged_first : (ed : Edition) (texts : List ℕ) (x : OperationPlace) (ps : List
 unfolding judged_operation
 judged_first ed texts x ps = worse_judged (allowed_at ed texts x) (few_at texts x) (all (allowed_at ed texts) ps) (all (few_at texts) ps)
 
-pub record OperationsSeen (ed : Edition) (texts : List ℕ) (ps : List OperationPlace) (bytes : ℕ) (judgement : TextJudgement) (i : ℕ) : Type 0 where
+pub record OperationsSeen (ed : Edition) (texts : List ℕ) (ps : List OperationPlace) (bytes : ℕ) (judgement : code.Result (Unit {0}) TextFault) (i : ℕ) : Type 0 where
   pub sized : bytes + operation_sizes (drop i ps) ≡ operation_sizes ps
   pub tested : all short_at (drop i ps) ≡ all short_at ps
   pub together : worse judgement (judged_values ed texts (drop i ps)) ≡ judged_values ed texts ps
   pub small : bytes ≤ (31 + text_bytes) * i
 
-pub operations_start : (ed : Edition) (texts : List ℕ) (ps : List OperationPlace) → OperationsSeen ed texts ps 0 Fits 0
+pub operations_start : (ed : Edition) (texts : List ℕ) (ps : List OperationPlace) → OperationsSeen ed texts ps 0 (code.Ok tt) 0
 operations_start ed texts ps = record { sized = omega arith; tested = refl; together = refl; small = omega arith }
 
-module _ {ed : Edition} {texts : List ℕ} {ps : List OperationPlace} {bytes : ℕ} {judgement : TextJudgement} {i : ℕ} (seen : OperationsSeen ed texts ps bytes judgement i) where
+module _ {ed : Edition} {texts : List ℕ} {ps : List OperationPlace} {bytes : ℕ} {judgement : code.Result (Unit {0}) TextFault} {i : ℕ} (seen : OperationsSeen ed texts ps bytes judgement i) where
   module _ (x : OperationPlace) (rest : drop i ps ≡ x ∷ drop (i + 1) ps) where
     pub operations_next : (operation_text x.operation).len ≤ text_bytes → OperationsSeen ed texts ps (bytes + operation_size x.operation) (worse judgement (judged_operation ed texts x.operation)) (i + 1)
     unfolding operation_sizes

@@ -1,4 +1,5 @@
 -- What the passes of a survey say together, and what follows for the writing.
+use Rattle.std.specs.Prelude as code
 use Prim.Native.Nat.{ℕ, ◌+◌, ◌*◌, ◌≤◌, ◌<◌}
 use mathlib.Core.Path.{◌≡◌, refl, sym, ap, ◌∙◌}
 use mathlib.Core.Bool.{Bool, true, false, ◌&&◌}
@@ -18,7 +19,7 @@ use Rattle.spec_patch.specs.Write as model
 use Rattle.projection_patch.specs.declared.patch.ProjectionPatch.{ProjectionPatch}
 use Rattle.projection_patch.specs.declared.patch.OperationPlace.{OperationPlace}
 use Rattle.projection_patch.specs.declared.patch.ProjectionPatchSet.{ProjectionPatchSet}
-use Rattle.projection_patch.specs.declared.text_rule.TextJudgement.{TextJudgement}
+use Rattle.projection_patch.specs.declared.text_rule.TextFault.{TextFault}
 use Rattle.projection_patch.specs.TextRule.{judged}
 use Rattle.patch_part_writer.specs.declared.written.WriteRefusal.{WriteRefusal}
 use Rattle.patch_part_writer.specs.declared.written.WriteRefusal.TheVariants as refusal
@@ -64,12 +65,12 @@ operations_refused ed texts ps e = go (all short_at ps) e
     go true e = absurd (let z : ◌≡◌ {A = ℕ} 0 1 = cc in omega arith)
     go false e = refl
 
-pub record OperationsWithin (ed : Edition) (texts : List ℕ) (ps : List OperationPlace) (bytes : ℕ) (judgement : TextJudgement) : Type 0 where
+pub record OperationsWithin (ed : Edition) (texts : List ℕ) (ps : List OperationPlace) (bytes : ℕ) (judgement : code.Result (Unit {0}) TextFault) : Type 0 where
   pub short : all short_at ps ≡ true
   pub sized : bytes ≡ operation_sizes ps
   pub verdict : judgement ≡ judged_values ed texts ps
 
-pub operations_within : (ed : Edition) (texts : List ℕ) (ps : List OperationPlace) (bytes : ℕ) (judgement : TextJudgement) → operation_survey ed texts ps ≡ of_operations.Within bytes judgement → OperationsWithin ed texts ps bytes judgement
+pub operations_within : (ed : Edition) (texts : List ℕ) (ps : List OperationPlace) (bytes : ℕ) (judgement : code.Result (Unit {0}) TextFault) → operation_survey ed texts ps ≡ of_operations.Within bytes judgement → OperationsWithin ed texts ps bytes judgement
 unfolding operation_survey
 operations_within ed texts ps bytes judgement e = go (all short_at ps) refl e
   where
@@ -130,7 +131,7 @@ module _ (ed : Edition) (texts : List ℕ) (set : ProjectionPatchSet) where
       over (and_no (counts_fit set) _ (ap (λ (t : Bool). t && leb (set_size set) set_bytes) no))
 
   -- the counts fit and the texts are short
-  module _ (operations bytes rest : ℕ) (judgement : TextJudgement) (few : set.patch_count ≤ set_patches) (enough : operations ≤ set_places) (hw : HeadsWithin (heads set) operations bytes) (ow : OperationsWithin ed texts (take operations set.operations) rest judgement) where
+  module _ (operations bytes rest : ℕ) (judgement : code.Result (Unit {0}) TextFault) (few : set.patch_count ≤ set_patches) (enough : operations ≤ set_places) (hw : HeadsWithin (heads set) operations bytes) (ow : OperationsWithin ed texts (take operations set.operations) rest judgement) where
     -- the bytes and the texts decide
     pub both_passed : surveyed operations (35 + (bytes + rest)) judgement ≡ set_survey ed texts set
     unfolding surveyed set_survey capacities_kept counts_fit set_size

@@ -1,4 +1,7 @@
 -- A set that a function is passed is a value of its type, so that every number of its list fits its field.
+use Rattle.std.specs.Prelude as code
+use Rattle.projection_patch.specs.declared.contract_primitives.StaticSurfaceId.{StaticSurfaceId}
+use Rattle.projection_patch.specs.declared.contract_primitives.CollectionKey.{CollectionKey}
 use Rattle.std.specs.Prelude.{ℕ, List, [], ◌∷◌, map, take, drop}
 use mir.Val.{Val}
 use denote.Laws.{Is}
@@ -12,10 +15,6 @@ use Rattle.spec_lists.specs.Lists.{All}
 use Rattle.spec_lists.proofs.ListLaws.{all_take, all_drop}
 use Rattle.spec_patch.specs.Fits.{OptionalU64, InRangeValue, OperationHolds, InRangeEnvelope, InRange}
 use Rattle.projection_patch.specs.Meaning.{surface_of, before_of, envelope_of, value_of, operation_of}
-use Rattle.projection_patch.specs.declared.patch.OptionalSurfaceId.{OptionalSurfaceId}
-use Rattle.projection_patch.specs.declared.patch.OptionalSurfaceId.TheVariants as surface
-use Rattle.projection_patch.specs.declared.patch.OptionalKey.{OptionalKey}
-use Rattle.projection_patch.specs.declared.patch.OptionalKey.TheVariants as key
 use Rattle.projection_patch.specs.declared.patch.ProjectionPatchEnvelope.{ProjectionPatchEnvelope}
 use Rattle.projection_patch.specs.declared.patch.ProjectionPatchValue.{ProjectionPatchValue}
 use Rattle.projection_patch.specs.declared.patch.ProjectionPatchValue.TheVariants.{Quad, SignedScalar, UnsignedScalar, Text, Score}
@@ -37,15 +36,15 @@ use Rattle.projection_patch.specs.contracts.patch.ProjectionPatchOperation as op
 -- The relation `Is` computes to nested pairs. A number has its machine value and its bound. A struct has its machine values, their form, and
 -- behind both the relations of its fields in order; an enum has the same twice, for its tag and for the fields of its variant. So in a path
 -- `.1 .1` goes to a struct's fields, `.1 .1 .1 .1` to a variant's, and a last `.1` to a bound.
-surface_in_range : (s : OptionalSurfaceId) (vs : List Val) → Is (enums.row surfaceType.the_type) s vs → OptionalU64 (surface_of s)
+surface_in_range : (s : code.Option StaticSurfaceId) (vs : List Val) → Is (enums.row surfaceType.the_type) s vs → OptionalU64 (surface_of s)
 unfolding OptionalU64
-surface_in_range surface.None vs h = tt
-surface_in_range (surface.Some id) vs h = h.1.1.1.1.0.1.1.0.1
+surface_in_range code.None vs h = tt
+surface_in_range (code.Some id) vs h = h.1.1.1.1.0.1.1.0.1
 
-key_in_range : (k : OptionalKey) (vs : List Val) → Is (enums.row keyType.the_type) k vs → OptionalU64 (before_of k)
+key_in_range : (k : code.Option CollectionKey) (vs : List Val) → Is (enums.row keyType.the_type) k vs → OptionalU64 (before_of k)
 unfolding OptionalU64
-key_in_range key.None vs h = tt
-key_in_range (key.Some k) vs h = h.1.1.1.1.0.1.1.0.1
+key_in_range code.None vs h = tt
+key_in_range (code.Some k) vs h = h.1.1.1.1.0.1.1.0.1
 
 value_in_range : (texts : List ℕ) (v : ProjectionPatchValue) (vs : List Val) → Is (enums.row valueType.the_type) v vs → InRangeValue (value_of texts v)
 unfolding InRangeValue

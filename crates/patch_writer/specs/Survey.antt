@@ -1,4 +1,5 @@
 -- What the passes over a set answer before anything is written.
+use Rattle.std.specs.Prelude as code
 use Rattle.std.specs.Prelude.{ℕ, ◌+◌, ◌≤◌, ◌≡◌, true, ◌&&◌, leb, length, take, drop, if◌then◌else◌}
 use mathlib.Core.List.{List, flat_map}
 use Rattle.spec_lists.specs.Lists.{all}
@@ -13,8 +14,8 @@ use Rattle.projection_patch.specs.declared.patch.OperationPlace.{OperationPlace}
 use Rattle.projection_patch.specs.declared.patch.ProjectionPatchSet.{ProjectionPatchSet}
 use Rattle.projection_patch.specs.declared.patch.ProjectionPatchValue.{ProjectionPatchValue}
 use Rattle.projection_patch.specs.declared.patch.ProjectionPatchOperation.{ProjectionPatchOperation}
-use Rattle.projection_patch.specs.declared.text_rule.TextJudgement.{TextJudgement}
-use Rattle.projection_patch.specs.declared.text_rule.TextJudgement.TheVariants.{Fits, Malformed, ManyCharacters}
+use Rattle.projection_patch.specs.declared.text_rule.TextFault.{TextFault}
+use Rattle.projection_patch.specs.declared.text_rule.TextFault.TheVariants.{Malformed, ManyCharacters}
 use Rattle.projection_patch.specs.TextRule.{judged}
 use Rattle.patch_part_writer.specs.declared.extent.TextPlace.{TextPlace}
 use Rattle.patch_part_writer.specs.Extent.{value_text, operation_text}
@@ -32,42 +33,42 @@ unfoldable pub head_survey : List ProjectionPatch → HeadSurvey
 head_survey hs = if all few_operations hs then ofHeads.Within (operation_total hs) (head_sizes hs) else ofHeads.OverCapacity
 
 -- the judgement of a text by its place, of a score, of a value and of an operation
-unfoldable pub judged_text : List ℕ → TextPlace → TextJudgement
+unfoldable pub judged_text : List ℕ → TextPlace → code.Result (Unit {0}) TextFault
 judged_text texts t = judged (inside_texts texts t && allowed true (take t.len (drop t.start texts))) (few_characters true (take t.len (drop t.start texts)))
 
-unfoldable pub judged_score : Edition → ℕ → TextJudgement
+unfoldable pub judged_score : Edition → ℕ → code.Result (Unit {0}) TextFault
 judged_score ed n = judged (has_kind ed 5 && leb n highest_score) true
 
-unfoldable pub judged_value : Edition → List ℕ → ProjectionPatchValue → TextJudgement
+unfoldable pub judged_value : Edition → List ℕ → ProjectionPatchValue → code.Result (Unit {0}) TextFault
 judged_value ed texts v = judged (inside_texts texts (value_text v) && well_formed ed (value_of texts v)) (few_enough (value_of texts v))
 
-unfoldable pub judged_operation : Edition → List ℕ → ProjectionPatchOperation → TextJudgement
+unfoldable pub judged_operation : Edition → List ℕ → ProjectionPatchOperation → code.Result (Unit {0}) TextFault
 judged_operation ed texts o =
     judged (inside_texts texts (operation_text o) && value_passes (well_formed ed) (operation_of texts o)) (value_passes few_enough (operation_of texts o))
 
 -- the judgement of all values: any that is malformed comes before any with too many characters
-abbrev pub judged_values : Edition → List ℕ → List OperationPlace → TextJudgement
+abbrev pub judged_values : Edition → List ℕ → List OperationPlace → code.Result (Unit {0}) TextFault
 judged_values ed texts ps = judged (all (allowed_at ed texts) ps) (all (few_at texts) ps)
 
 -- the judgement of two values
-abbrev pub worse : TextJudgement → TextJudgement → TextJudgement
-worse Fits b = b
-worse Malformed b = Malformed
-worse ManyCharacters Fits = ManyCharacters
-worse ManyCharacters Malformed = Malformed
-worse ManyCharacters ManyCharacters = ManyCharacters
+abbrev pub worse : code.Result (Unit {0}) TextFault → code.Result (Unit {0}) TextFault → code.Result (Unit {0}) TextFault
+worse (code.Ok tt) b = b
+worse (code.Err Malformed) b = (code.Err Malformed)
+worse (code.Err ManyCharacters) (code.Ok tt) = (code.Err ManyCharacters)
+worse (code.Err ManyCharacters) (code.Err Malformed) = (code.Err Malformed)
+worse (code.Err ManyCharacters) (code.Err ManyCharacters) = (code.Err ManyCharacters)
 
 unfoldable pub operation_survey : Edition → List ℕ → List OperationPlace → OperationSurvey
 operation_survey ed texts ps = if all short_at ps then of_operations.Within (operation_sizes ps) (judged_values ed texts ps) else of_operations.OverCapacity
 
 -- 10, then 12 for characters
-abbrev pub by_values : ℕ → ℕ → TextJudgement → Survey
-by_values operations bytes Fits = of_set.Within operations bytes
-by_values operations bytes Malformed = of_set.Refused refusal.Malformed
-by_values operations bytes ManyCharacters = of_set.Refused refusal.OverCapacity
+abbrev pub by_values : ℕ → ℕ → code.Result (Unit {0}) TextFault → Survey
+by_values operations bytes (code.Ok tt) = of_set.Within operations bytes
+by_values operations bytes (code.Err Malformed) = of_set.Refused refusal.Malformed
+by_values operations bytes (code.Err ManyCharacters) = of_set.Refused refusal.OverCapacity
 
 -- 12 for too many bytes, then what the values say
-unfoldable pub surveyed : ℕ → ℕ → TextJudgement → Survey
+unfoldable pub surveyed : ℕ → ℕ → code.Result (Unit {0}) TextFault → Survey
 surveyed operations bytes judgement = if leb bytes set_bytes then by_values operations bytes judgement else of_set.Refused refusal.OverCapacity
 
 -- 12 for any capacity, then what the values say

@@ -8,59 +8,59 @@ use projection_patch::patch::{
     ProjectionPatchEdition, ProjectionPatchOperation, ProjectionPatchValue,
 };
 use projection_patch::read_values;
-use projection_patch::text_rule::{TextJudgement, judge_text};
+use projection_patch::text_rule::{TextFault, judge_text};
 
 // The judgement of two values.
-pub fn worse_of(a: TextJudgement, b: TextJudgement) -> TextJudgement
+pub fn worse_of(a: Result<(), TextFault>, b: Result<(), TextFault>) -> Result<(), TextFault>
     ensures { result ≡ worse a b }
 {
     match a {
-        TextJudgement::Fits => b,
-        TextJudgement::Malformed => TextJudgement::Malformed,
-        TextJudgement::ManyCharacters => match b {
-            TextJudgement::Fits => TextJudgement::ManyCharacters,
-            TextJudgement::Malformed => TextJudgement::Malformed,
-            TextJudgement::ManyCharacters => TextJudgement::ManyCharacters,
+        Ok(()) => b,
+        Err(TextFault::Malformed) => Err(TextFault::Malformed),
+        Err(TextFault::ManyCharacters) => match b {
+            Ok(()) => Err(TextFault::ManyCharacters),
+            Err(TextFault::Malformed) => Err(TextFault::Malformed),
+            Err(TextFault::ManyCharacters) => Err(TextFault::ManyCharacters),
         },
     }
 }
 
 // The judgement of a text; one that is not within the texts is malformed.
-fn judge_place(text: TextPlace, texts: &[u8]) -> TextJudgement
+fn judge_place(text: TextPlace, texts: &[u8]) -> Result<(), TextFault>
     ensures { result ≡ judged_text texts.now text }
 {
     let start = text.start;
     let len = text.len;
     if !bytes_wire::has_room(texts.len(), start, len) {
-        return TextJudgement::Malformed;
+        return Err(TextFault::Malformed);
     }
     judge_text(read_values::text_of(texts, start, start + len))
 }
 
 // A score in an edition without scores is malformed, and so is one that is too high.
-fn judge_score(score: u8, edition: ProjectionPatchEdition) -> TextJudgement
+fn judge_score(score: u8, edition: ProjectionPatchEdition) -> Result<(), TextFault>
     ensures { result ≡ judged_score (edition_of edition) score }
 {
     if !edition.has_scores() {
-        return TextJudgement::Malformed;
+        return Err(TextFault::Malformed);
     }
     if ProjectionPatchValue::HIGHEST_SCORE < score {
-        return TextJudgement::Malformed;
+        return Err(TextFault::Malformed);
     }
-    TextJudgement::Fits
+    Ok(())
 }
 
 fn judge_value(
     value: ProjectionPatchValue,
     texts: &[u8],
     edition: ProjectionPatchEdition,
-) -> TextJudgement
+) -> Result<(), TextFault>
     ensures { result ≡ judged_value (edition_of edition) texts.now value }
 {
     match value {
-        ProjectionPatchValue::Quad(_) => TextJudgement::Fits,
-        ProjectionPatchValue::SignedScalar(_) => TextJudgement::Fits,
-        ProjectionPatchValue::UnsignedScalar(_) => TextJudgement::Fits,
+        ProjectionPatchValue::Quad(_) => Ok(()),
+        ProjectionPatchValue::SignedScalar(_) => Ok(()),
+        ProjectionPatchValue::UnsignedScalar(_) => Ok(()),
         ProjectionPatchValue::Text { start, len } => judge_place(TextPlace { start, len }, texts),
         ProjectionPatchValue::Score(score) => judge_score(score, edition),
     }
@@ -71,7 +71,7 @@ pub fn judge_operation(
     operation: ProjectionPatchOperation,
     texts: &[u8],
     edition: ProjectionPatchEdition,
-) -> TextJudgement
+) -> Result<(), TextFault>
     ensures { result ≡ judged_operation (edition_of edition) texts.now operation }
 {
     match operation {
@@ -81,7 +81,7 @@ pub fn judge_operation(
         ProjectionPatchOperation::SetNodeAvailability {
             node: _,
             availability: _,
-        } => TextJudgement::Fits,
+        } => Ok(()),
         ProjectionPatchOperation::CollectionInsert {
             collection: _,
             key: _,
@@ -96,11 +96,11 @@ pub fn judge_operation(
         ProjectionPatchOperation::CollectionRemove {
             collection: _,
             key: _,
-        } => TextJudgement::Fits,
+        } => Ok(()),
         ProjectionPatchOperation::CollectionMove {
             collection: _,
             key: _,
             before: _,
-        } => TextJudgement::Fits,
+        } => Ok(()),
     }
 }

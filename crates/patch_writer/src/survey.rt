@@ -12,7 +12,7 @@ use patch_part_writer::written::WriteRefusal;
 use projection_patch::patch::{
     ProjectionPatch, ProjectionPatchEdition, ProjectionPatchSet, ProjectionPatchValue,
 };
-use projection_patch::text_rule::TextJudgement;
+use projection_patch::text_rule::TextFault;
 
 // How many operations the heads count, and the bytes of the heads.
 #[derive(Drop)]
@@ -27,7 +27,7 @@ pub enum OperationSurvey {
     OverCapacity,
     Within {
         bytes: usize,
-        judgement: TextJudgement,
+        judgement: Result<(), TextFault>,
     },
 }
 
@@ -71,7 +71,7 @@ fn survey_operations(
     ensures { result ≡ operation_survey (edition_of edition) texts.now (take operations set.operations) }
 {
     let mut bytes: usize = 0;
-    let mut judgement = TextJudgement::Fits;
+    let mut judgement = Ok(());
     let mut i: usize = 0;
     while i < operations {
         let place = set.operations[i];
@@ -88,16 +88,16 @@ fn survey_operations(
 }
 
 // The bytes of the set before the judgement of its values.
-fn judge(operations: usize, bytes: usize, judgement: TextJudgement) -> Survey
+fn judge(operations: usize, bytes: usize, judgement: Result<(), TextFault>) -> Survey
     ensures { result ≡ surveyed operations bytes judgement }
 {
     if ProjectionPatchSet::BYTES < bytes {
         return Survey::Refused(WriteRefusal::OverCapacity);
     }
     match judgement {
-        TextJudgement::Fits => Survey::Within { operations, bytes },
-        TextJudgement::Malformed => Survey::Refused(WriteRefusal::Malformed),
-        TextJudgement::ManyCharacters => Survey::Refused(WriteRefusal::OverCapacity),
+        Ok(()) => Survey::Within { operations, bytes },
+        Err(TextFault::Malformed) => Survey::Refused(WriteRefusal::Malformed),
+        Err(TextFault::ManyCharacters) => Survey::Refused(WriteRefusal::OverCapacity),
     }
 }
 

@@ -108,11 +108,11 @@ fn collection_remove(
     ensures { (strict : Bool) (ed : Edition) → result ≡ operation_answer (length part.now) (operation_after strict ed 5 (drop 1 part.now)) }
 {
     let ((collection, key), end) = read_values::numbers_at(part, widths::TAG)?;
-    let operation = ProjectionPatchOperation::CollectionRemove {
+    let removal = ProjectionPatchOperation::CollectionRemove {
         collection: StaticNodeId::new(collection),
         key: CollectionKey::new(key),
     };
-    Ok((operation, end))
+    Ok((removal, end))
 }
 
 fn collection_move(

@@ -49,7 +49,10 @@ impl From<TextFault> for ProjectionPatchReadFault {
 pub fn byte_at(part: &[u8], at: usize) -> Result<(u8, usize), ProjectionPatchReadFault>
     ensures { result ≡ plain_answer (length part.now) (byte (drop at part.now)) }
 {
-    let byte = part.get(at).copied().ok_or(ProjectionPatchReadFault::Malformed)?;
+    let byte = part
+        .get(at)
+        .copied()
+        .ok_or(ProjectionPatchReadFault::Malformed)?;
     Ok((byte, at + 1))
 }
 
@@ -75,10 +78,7 @@ fn i64_at(part: &[u8], at: usize) -> Result<(i64, usize), ProjectionPatchReadFau
 }
 
 // Two numbers, one behind the other.
-pub fn numbers_at(
-    part: &[u8],
-    at: usize,
-) -> Result<((u64, u64), usize), ProjectionPatchReadFault>
+pub fn numbers_at(part: &[u8], at: usize) -> Result<((u64, u64), usize), ProjectionPatchReadFault>
     ensures { result ≡ plain_answer (length part.now) (pair read_u64 read_u64 (drop at part.now)) }
 {
     let (first, at) = u64_at(part, at)?;
@@ -110,10 +110,7 @@ fn some_at(part: &[u8], at: usize) -> Result<(Option<u64>, usize), ProjectionPat
     Ok((Some(n), end))
 }
 
-pub fn optional_at(
-    part: &[u8],
-    at: usize,
-) -> Result<(Option<u64>, usize), ProjectionPatchReadFault>
+pub fn optional_at(part: &[u8], at: usize) -> Result<(Option<u64>, usize), ProjectionPatchReadFault>
     ensures { result ≡ optional_answer (length part.now) (read_optional (drop at part.now)) }
 {
     let (tag, body) = byte_at(part, at)?;
@@ -148,7 +145,10 @@ fn quad_at(
     ensures { result ≡ value_answer (length part.now) (mapped model.quad read_quad (drop at part.now)) }
 {
     let (tag, end) = byte_at(part, at)?;
-    Ok((ProjectionPatchValue::Quad(ProjectionQuadState::try_from(tag)?), end))
+    Ok((
+        ProjectionPatchValue::Quad(ProjectionQuadState::try_from(tag)?),
+        end,
+    ))
 }
 
 fn signed_at(

@@ -11,14 +11,13 @@ use crate::fields::{HexField, NumberField, NumberFields, SPACE};
 use crate::{ImportLine, ScriptCommand, SetLine, fields};
 use projection_patch::contract_primitives::{Epoch, Revision, StaticDocumentId, StaticSurfaceId};
 use projection_patch::patch::{
-    OptionalSurfaceId, ProjectionPatchEnvelope, ProjectionPatchId, ProjectionPatchSequence,
-    ProjectionPatchStreamId,
+    ProjectionPatchEnvelope, ProjectionPatchId, ProjectionPatchSequence, ProjectionPatchStreamId,
 };
 
 // A surface or none, and where its field ends; Other is any other field, or none.
 #[derive(Drop)]
 pub enum SurfaceField {
-    Surface(OptionalSurfaceId, usize),
+    Surface(Option<StaticSurfaceId>, usize),
     Other,
 }
 
@@ -32,11 +31,11 @@ fn surface_after(line: &[u8], end: usize) -> SurfaceField
     let from = end + 1;
     let to = fields::field_end(line, from, SPACE);
     if fields::is_word(&line[from..to], b"-") {
-        return SurfaceField::Surface(OptionalSurfaceId::None, to);
+        return SurfaceField::Surface(None, to);
     }
     match bytes_decimal::read_u64(&line[from..to]) {
         bytes_decimal::ReadU64::Read(n) => {
-            SurfaceField::Surface(OptionalSurfaceId::Some(StaticSurfaceId::new(n)), to)
+            SurfaceField::Surface(Some(StaticSurfaceId::new(n)), to)
         }
         bytes_decimal::ReadU64::Malformed => SurfaceField::Other,
     }
@@ -46,7 +45,7 @@ fn surface_after(line: &[u8], end: usize) -> SurfaceField
 fn import_command(
     room: u16,
     front: [u64; NumberFields::MOST],
-    surface: OptionalSurfaceId,
+    surface: Option<StaticSurfaceId>,
     back: [u64; NumberFields::MOST],
     from: usize,
 ) -> ScriptCommand
@@ -79,7 +78,7 @@ fn read_back(
     end: usize,
     room: u16,
     front: [u64; NumberFields::MOST],
-    surface: OptionalSurfaceId,
+    surface: Option<StaticSurfaceId>,
 ) -> ScriptCommand
     ensures { script_command_of line.now result ≡ behind_surface room front (surface_of surface) (fields_after space line.now end) }
 {

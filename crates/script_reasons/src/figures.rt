@@ -5,13 +5,12 @@ ghost use Rattle.spec_listing.specs.Listing.{fields};
 ghost use Rattle.spec_replay.specs.Answers.{dash, place_field};
 ghost use Rattle.spec_replay.specs.Reasons.{inside_fields, takes_field, figure_fields};
 ghost use Rattle.bytes_printer.specs.Prints.{spaced_field, Prints};
-ghost use Rattle.projection_patch.specs.ReadAnswers.{optional_of};
+ghost use Rattle.spec_lists.specs.Options.{optional_of};
 ghost use Rattle.patch_locate.specs.Answers.{inside_of};
 ghost use Rattle.session_explain.specs.Meaning.{finding_place_of, printed_reason_of};
 
 use check_set::check_set::CheckPlace;
 use patch_locate::rules::Inside;
-use projection_patch::read_values::OptionalNumber;
 use session_explain::reasons::BatchReason;
 
 fn print_two(out: &mut [u8], at: Option<usize>, a: u64, b: u64) -> Option<usize>
@@ -60,12 +59,12 @@ fn print_inside(out: &mut [u8], at: Option<usize>, inside: Inside) -> Option<usi
     }
 }
 
-fn print_takes(out: &mut [u8], at: Option<usize>, takes: OptionalNumber) -> Option<usize>
+fn print_takes(out: &mut [u8], at: Option<usize>, takes: Option<u64>) -> Option<usize>
     ensures { Prints out.old at (fields (takes_field (optional_of takes) ∷ [])) out.new result }
 {
     match takes {
-        OptionalNumber::None => print_none(out, at),
-        OptionalNumber::Some(n) => {
+        None => print_none(out, at),
+        Some(n) => {
             let number = bytes_printer::print_field_u64(out, at, n);
             bytes_printer::print_newline(out, number)
         }

@@ -22,7 +22,11 @@ fn print_given(out: &mut [u8], at: Option<usize>, reason: BatchReason) -> Option
 }
 
 // The answer of explain.
-pub fn print_reason(out: &mut [u8], at: Option<usize>, explanation: BatchExplanation) -> Option<usize>
+pub fn print_reason(
+    out: &mut [u8],
+    at: Option<usize>,
+    explanation: BatchExplanation,
+) -> Option<usize>
     ensures { Prints out.old at (reason_line (explanation_of explanation)) out.new result }
 {
     match explanation {

@@ -3,7 +3,7 @@ use Rattle.spec_checks.specs.Findings.{Place, in_patch, in_set}
 use Rattle.spec_explain.specs.OperationRule as operations
 use Rattle.spec_explain.specs.Reason as model
 use Rattle.spec_explain.specs.Explain as explaining
-use Rattle.projection_patch.specs.ReadAnswers.{optional_of}
+use Rattle.spec_lists.specs.Options.{optional_of}
 use Rattle.patch_locate.specs.Answers.{reading_rule_of, inside_of}
 use Rattle.check_set.specs.declared.check_set.CheckPlace.{CheckPlace}
 use Rattle.check_set.specs.declared.check_set.CheckPlace.TheVariants as places

@@ -7,7 +7,7 @@ use Rattle.spec_explain.specs.ReadingRule as readings
 use Rattle.spec_explain.specs.OperationRule as operations
 use Rattle.spec_explain.specs.Reason as model
 use Rattle.spec_explain.specs.Explain.{Explanation, no_reason, withheld, given}
-use Rattle.projection_patch.specs.ReadAnswers.{optional_to, optional_of}
+use Rattle.spec_lists.specs.Options.{optional_to, optional_of}
 use Rattle.patch_locate.specs.Answers.{rule_to, reading_rule_of, inside_to, inside_of}
 use Rattle.check_set.specs.CheckAnswers.{place_to}
 use Rattle.session_explain.specs.Reasons.{limit_to, operation_rule_to, reason_to, explanation_to}

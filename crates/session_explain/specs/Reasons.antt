@@ -6,7 +6,7 @@ use Rattle.spec_session.specs.Batch.{BatchEnvelope}
 use Rattle.spec_explain.specs.OperationRule as operations
 use Rattle.spec_explain.specs.Reason as model
 use Rattle.spec_explain.specs.Explain as explaining
-use Rattle.projection_patch.specs.ReadAnswers.{optional_to}
+use Rattle.spec_lists.specs.Options.{optional_to}
 use Rattle.patch_locate.specs.Answers.{rule_to, inside_to}
 use Rattle.check_set.specs.CheckAnswers.{place_to}
 use Rattle.patch_locate.specs.declared.set.SetLocated.{SetLocated}

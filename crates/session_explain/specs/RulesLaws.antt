@@ -1,4 +1,5 @@
 -- The rule of an insert and of a move, by what the searches in the entries answer.
+use Rattle.std.specs.Prelude as code
 use Rattle.std.specs.Prelude.{ℕ, ◌≡◌, List}
 use Rattle.std.proofs.Common.{sym, ap, ap₂, ◌∙◌}
 use Rattle.std.proofs.Math.Option.{Option}
@@ -13,7 +14,6 @@ use Rattle.spec_explain.specs.OperationRule.{key_present, key_absent, neighbour_
 use Rattle.projection_patch.specs.Meaning.{value_of, before_of, operation_of}
 use Rattle.projection_patch.specs.declared.contract_primitives.CollectionKey.{CollectionKey}
 use Rattle.projection_patch.specs.declared.contract_primitives.StaticNodeId.{StaticNodeId}
-use Rattle.projection_patch.specs.declared.patch.OptionalKey.{OptionalKey}
 use Rattle.projection_patch.specs.declared.patch.ProjectionPatchValue.{ProjectionPatchValue}
 use Rattle.projection_patch.specs.declared.patch.ProjectionPatchOperation.{ProjectionPatchOperation}
 use Rattle.projection_patch.specs.declared.patch.ProjectionPatchOperation.TheVariants.{CollectionInsert, CollectionMove}
@@ -47,7 +47,7 @@ module _ (p : Projection) (c k : ℕ) (before : Option ℕ) where
 
 -- ---- the operations as they are read
 
-module _ (p : Projection) (texts : List ℕ) {c k : ℕ} {collection : StaticNodeId} {key : CollectionKey} {before : OptionalKey} (collection-is : c ≡ collection.0) (key_is : k ≡ key.0) where
+module _ (p : Projection) (texts : List ℕ) {c k : ℕ} {collection : StaticNodeId} {key : CollectionKey} {before : code.Option CollectionKey} (collection-is : c ≡ collection.0) (key_is : k ≡ key.0) where
   pub insert_told : {value : ProjectionPatchValue} {o : ProjectionPatchOperation} → o ≡ CollectionInsert collection key before value → (rule : OperationRule)
       → ((v : Value) → rule ≡ operation_rule_to (rule_of p (insert c k (before_of before) v))) → rule ≡ operation_rule_to (rule_of p (operation_of texts o))
   insert_told {value} is rule told = told (value_of texts value) ∙ ap₂ (λ (i j : ℕ). operation_rule_to (rule_of p (insert i j (before_of before) (value_of texts value)))) collection-is key_is ∙ sym (ap (λ o. operation_rule_to (rule_of p (operation_of texts o))) is)

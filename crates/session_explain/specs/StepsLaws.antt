@@ -1,4 +1,5 @@
 -- The steps by what they look at are the steps of `explain_steps`, and what the searches answer gives their reasons.
+use Rattle.std.specs.Prelude as code
 use Rattle.std.specs.Prelude.{ℕ, ◌+◌, Bool, ◌&&◌, ◌||◌, get_or, if◌then◌else◌}
 use Rattle.std.proofs.Math.Path.{◌≡◌, refl, sym, ap, ap₂}
 use Rattle.std.proofs.Common.{◌∙◌, subst, arith}
@@ -28,7 +29,8 @@ use Rattle.spec_explain.specs.Walk.{Walk, through, halted, walk_patches, tested}
 use Rattle.spec_explain.specs.Reason.{foreign_session, session_closed, counts_differ, cursor_mismatch}
 use Rattle.spec_explain.specs.Explain.{Explained, fine, because, ◌>>=◌, ◌>>◌, require_or, patches_read, patches_readable, no_findings, target_known, targets_known, next_number, step_kept, applies, explain_steps, over_declared, reason_of, withheld, given, under_cap}
 use Rattle.spec_explain.specs.CallReasons.{explain_check}
-use Rattle.projection_patch.specs.ReadAnswers.{fault_to, optional_to}
+use Rattle.spec_lists.specs.Options.{optional_to}
+use Rattle.projection_patch.specs.ReadAnswers.{fault_to}
 use Rattle.projection_patch.specs.declared.read_values.ProjectionPatchReadFault.{ProjectionPatchReadFault}
 use Rattle.patch_sets.specs.SetAnswers.{operation_count_lem}
 use Rattle.check_findings.specs.Found.{is_found}
@@ -36,7 +38,6 @@ use Rattle.check_quick.specs.Anchors.{anchored, absent_of}
 use Rattle.check_quick.specs.QuickAnswers.{inspected_by, inspection_answer}
 use Rattle.check_quick.specs.declared.inspection.SetInspection.{SetInspection}
 use Rattle.check_quick.specs.declared.inspection.SetInspection.TheVariants as inspection
-use Rattle.projection_patch.specs.declared.read_values.OptionalNumber.{OptionalNumber}
 use Rattle.patch_locate.specs.Answers.{located_set}
 use Rattle.check_set.specs.CheckAnswers.{place_to, checked_to}
 use Rattle.check_set.specs.declared.check_set.CheckPlace.{CheckPlace}
@@ -143,7 +144,7 @@ module _ (c : Cursor) (e : BatchEnvelope) (g : BatchGate) (told : gate_of g ≡ 
       go true h = refl
       go false h = absurd (let z : ◌≡◌ {A = ℕ} 0 1 = cc in omega arith)
 
-  pub replay_refused : {r : ShellRefusal} {n : ℕ} → g ≡ gate.Refused r n → (o : OptionalNumber) → o ≡ optional_to (next_number c) → steps.Because (reasons.CursorMismatch o) ≡ step_to (explain_replay_by c e)
+  pub replay_refused : {r : ShellRefusal} {n : ℕ} → g ≡ gate.Refused r n → (o : code.Option ℕ) → o ≡ optional_to (next_number c) → steps.Because (reasons.CursorMismatch o) ≡ step_to (explain_replay_by c e)
   unfolding explain_replay_by gates.replay_by gate_of require_or batching.require
   replay_refused {r} {n} is o after = ap (λ x. steps.Because (reasons.CursorMismatch x)) after ∙ go (eqb e.patches 0 || takes_number c e.sequence) (sym (ap gate_of is) ∙ told)
     where

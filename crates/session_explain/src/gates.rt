@@ -1,14 +1,13 @@
 // The steps of a batch that do not look into the set's bytes, each with its reason.
 ghost use Rattle.std.specs.Prelude.{◌≡◌};
 ghost use Rattle.spec_explain.specs.Explain.{next_number};
-ghost use Rattle.projection_patch.specs.ReadAnswers.{optional_to};
+ghost use Rattle.spec_lists.specs.Options.{optional_to};
 ghost use Rattle.session_lifecycle.specs.Meaning.{lifecycle_of, cursor_of, limits_of};
 ghost use Rattle.session_gates.specs.Gates.{batch_envelope_of};
 ghost use Rattle.session_explain.specs.Reasons.{over_to, step_to};
 ghost use Rattle.session_explain.specs.Steps.{declared_by, explain_preflight_by, references_by, explain_counts_by, explain_replay_by};
 
 use crate::reasons::{BatchReason, DeclaredLimit, StepReason};
-use projection_patch::read_values::OptionalNumber;
 use session_gates::gates;
 use session_gates::gates::{BatchGate, OrderedProjectionPatchBatchEnvelope};
 use session_lifecycle::lifecycle;
@@ -110,16 +109,16 @@ pub fn explain_counts(
 }
 
 // The one number that a cursor takes; Uninitialized asks for none, and after the last there is none.
-fn number_after(cursor: ProjectionReplayCursor) -> OptionalNumber
+fn number_after(cursor: ProjectionReplayCursor) -> Option<u64>
     ensures { result ≡ optional_to (next_number (cursor_of cursor)) }
 {
     match cursor {
-        ProjectionReplayCursor::Uninitialized => OptionalNumber::None,
+        ProjectionReplayCursor::Uninitialized => None,
         ProjectionReplayCursor::At(last) => {
             if last == 0xffff_ffff_ffff_ffff {
-                return OptionalNumber::None;
+                return None;
             }
-            OptionalNumber::Some(last + 1)
+            Some(last + 1)
         }
     }
 }

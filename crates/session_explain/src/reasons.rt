@@ -4,7 +4,6 @@ ghost use Rattle.session_explain.specs.Reasons.{first_to, capped_to};
 
 use check_set::check_set::CheckPlace;
 use patch_locate::rules::{Inside, ReadingRule};
-use projection_patch::read_values::OptionalNumber;
 
 // Which of the declared figures is over its limit.
 #[derive(Clone, Copy)]
@@ -41,7 +40,7 @@ pub enum BatchReason {
     ReferencesOver { actual: u64, limit: u64 },
     // How many, and patch and operation of the first.
     UnknownTarget(usize, usize, usize),
-    CursorMismatch { takes: OptionalNumber },
+    CursorMismatch { takes: Option<u64> },
     // Patch, operation and rule.
     OperationFails(usize, usize, OperationRule),
 }

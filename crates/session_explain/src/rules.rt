@@ -10,7 +10,8 @@ ghost use Rattle.session_explain.specs.Reasons.{operation_rule_to};
 
 use crate::reasons::OperationRule;
 use panel_entries::find;
-use projection_patch::patch::{OptionalKey, ProjectionPatchOperation};
+use projection_patch::contract_primitives::CollectionKey;
+use projection_patch::patch::ProjectionPatchOperation;
 
 // Of an insert: the key is there, or the neighbour is not, or else there is no room.
 fn insert_rule(
@@ -18,7 +19,7 @@ fn insert_rule(
     count: usize,
     collection: u64,
     key: u64,
-    before: OptionalKey,
+    before: Option<CollectionKey>,
 ) -> OperationRule
     ensures { (p : Projection) (v : Value) → PlannedEntries count entries.now p.entries → Valid p → result ≡ operation_rule_to (rule_of p (insert collection key (before_of before) v)) }
 {
@@ -37,7 +38,7 @@ fn move_rule(
     count: usize,
     collection: u64,
     key: u64,
-    before: OptionalKey,
+    before: Option<CollectionKey>,
 ) -> OperationRule
     ensures { (p : Projection) → PlannedEntries count entries.now p.entries → Valid p → result ≡ operation_rule_to (rule_of p (move collection key (before_of before))) }
 {

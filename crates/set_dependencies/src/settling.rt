@@ -11,7 +11,7 @@ ghost use Rattle.set_dependencies.specs.declared.settling.Settling.TheVariants a
 use crate::settled_rows::{SettledKey, SettledPlaces};
 use crate::{find_settled, insert_settled, settled_rows};
 use projection_patch::contract_primitives::{CollectionKey, StaticNodeId};
-use projection_patch::patch::{OptionalKey, ProjectionPatchOperation};
+use projection_patch::patch::ProjectionPatchOperation;
 
 // What an operation does with a key that it looks for: an added one must be absent, the others must be there; a taken one is gone afterwards.
 #[derive(Clone, Copy)]
@@ -141,15 +141,15 @@ fn settle_beside(
     collection: StaticNodeId,
     key: CollectionKey,
     key_use: KeyUse,
-    before: OptionalKey,
+    before: Option<CollectionKey>,
 ) -> Settling
     ensures { Judges places table.old table.new result (expectation_of collection.0 key.0 key_use ∷ neighbour collection.0 (before_of before)) }
 {
     let node = collection.raw();
     match settle(table, places, node, key.raw(), key_use) {
         Settling::Settled(more) => match before {
-            OptionalKey::None => Settling::Settled(more),
-            OptionalKey::Some(beside) => settle(table, more, node, beside.raw(), KeyUse::Kept),
+            None => Settling::Settled(more),
+            Some(beside) => settle(table, more, node, beside.raw(), KeyUse::Kept),
         },
         Settling::Contradiction => Settling::Contradiction,
     }
@@ -163,7 +163,7 @@ pub fn settle_operation(
 ) -> Settling
     ensures { Judges places table.old table.new result (expectations (operation_of [] operation)) }
 {
-    let alone = OptionalKey::None;
+    let alone = None;
     match operation {
         ProjectionPatchOperation::SetBindingValue { .. } => Settling::Settled(places),
         ProjectionPatchOperation::SetNodeAvailability { .. } => Settling::Settled(places),

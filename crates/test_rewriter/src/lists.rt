@@ -2,13 +2,11 @@
 use patch_sets::PatchHeadRead;
 use projection_patch::contract_primitives::{Epoch, Revision, StaticDocumentId, StaticNodeId};
 use projection_patch::patch::{
-    OperationPlace, OptionalSurfaceId, ProjectionNodeAvailability, ProjectionPatch,
-    ProjectionPatchEdition, ProjectionPatchEnvelope, ProjectionPatchId, ProjectionPatchOperation,
-    ProjectionPatchSequence, ProjectionPatchSet, ProjectionPatchStreamId, ProjectionPatchValue,
+    OperationPlace, ProjectionNodeAvailability, ProjectionPatch, ProjectionPatchEdition,
+    ProjectionPatchEnvelope, ProjectionPatchId, ProjectionPatchOperation, ProjectionPatchSequence,
+    ProjectionPatchSet, ProjectionPatchStreamId, ProjectionPatchValue,
 };
 use projection_patch::read_operations;
-use projection_patch::read_operations::OperationRead;
-use projection_patch::read_values::CountRead;
 use std::num;
 
 // A list as far as it was read: its operations so far, where the next part starts, and whether all was readable.
@@ -25,7 +23,7 @@ fn nothing() -> ProjectionPatch {
         patch_id: ProjectionPatchId::new(0),
         stream_id: ProjectionPatchStreamId::new(0),
         document_id: StaticDocumentId::new(0),
-        surface_id: OptionalSurfaceId::None,
+        surface_id: None,
         previous_projection_revision: Revision::new(0),
         projection_revision: Revision::new(0),
         epoch: Epoch::new(0),
@@ -112,7 +110,7 @@ fn with_operations(
             return before;
         }
         match read_operations::read_operation(&set[at..], edition) {
-            OperationRead::Read(operation, taken) => {
+            Ok((operation, taken)) => {
                 operations[used] = OperationPlace {
                     operation: moved(operation, at),
                 };
@@ -120,7 +118,7 @@ fn with_operations(
                 at = num::wrapping_add_usize(at, taken);
                 left -= 1;
             }
-            OperationRead::Refused(_) => {
+            Err(_) => {
                 return before;
             }
         }
@@ -195,7 +193,7 @@ pub(crate) fn list_of(set: &[u8], edition: ProjectionPatchEdition) -> ListRead {
         is_read: false,
     };
     match patch_sets::read_heading(set, edition) {
-        CountRead::Read(count, at) => {
+        Ok((count, at)) => {
             let mut list = read.list;
             list.patch_count = count;
             read.list = list;
@@ -203,6 +201,6 @@ pub(crate) fn list_of(set: &[u8], edition: ProjectionPatchEdition) -> ListRead {
             read.is_read = true;
             with_patches(read, set, count, edition)
         }
-        CountRead::Refused(_) => read,
+        Err(_) => read,
     }
 }

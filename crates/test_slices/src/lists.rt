@@ -4,9 +4,9 @@ ghost use Rattle.std.specs.Prelude.{◌<◌};
 use projection_patch::binding_graph::{BindingSlot, BindingTarget};
 use projection_patch::contract_primitives::{Epoch, Revision, StaticDocumentId, StaticNodeId};
 use projection_patch::patch::{
-    OperationPlace, OptionalSurfaceId, ProjectionNodeAvailability, ProjectionPatch,
-    ProjectionPatchEnvelope, ProjectionPatchId, ProjectionPatchOperation, ProjectionPatchSequence,
-    ProjectionPatchSet, ProjectionPatchStreamId, ProjectionPatchValue,
+    OperationPlace, ProjectionNodeAvailability, ProjectionPatch, ProjectionPatchEnvelope,
+    ProjectionPatchId, ProjectionPatchOperation, ProjectionPatchSequence, ProjectionPatchSet,
+    ProjectionPatchStreamId, ProjectionPatchValue,
 };
 
 fn head(operation_count: usize) -> ProjectionPatch {
@@ -14,7 +14,7 @@ fn head(operation_count: usize) -> ProjectionPatch {
         patch_id: ProjectionPatchId::new(1),
         stream_id: ProjectionPatchStreamId::new(2),
         document_id: StaticDocumentId::new(3),
-        surface_id: OptionalSurfaceId::None,
+        surface_id: None,
         previous_projection_revision: Revision::new(4),
         projection_revision: Revision::new(5),
         epoch: Epoch::new(6),

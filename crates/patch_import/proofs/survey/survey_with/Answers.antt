@@ -31,7 +31,6 @@ list r = r.args.list.now
 abbrev collection : After-read_line → ℕ
 collection r = r.args.collection
 
-
 abbrev key : In_ok-line → ℕ
 key k = k.in_ok-line.line.key
 

@@ -32,14 +32,14 @@ returns-then-len-gt-TEXT_BYTES c =
 
 pub returns-in-Fits : goal.returns-in-Fits
 returns-in-Fits c =
-    let fits = judged_fits true (text (goal.at.returns-in-Fits c).After-judge_text) refl (sym (asked (goal.at.returns-in-Fits c).After-judge_text) ∙ c.in-Fits.is) in
+    let fits = judged_fits (text (goal.at.returns-in-Fits c).After-judge_text) (sym (asked (goal.at.returns-in-Fits c).After-judge_text) ∙ c.in-Fits.is) in
     text_passed c.args.part.now c.args.at c.args.len (omega arith) (omega arith) (omega arith) fits.0 fits.1
 
 pub returns-in-Malformed : goal.returns-in-Malformed
 returns-in-Malformed c =
-    text_not_utf8 c.args.part.now c.args.at c.args.len (omega arith) (omega arith) (omega arith) (judged_malformed true (text (goal.at.returns-in-Malformed c).After-judge_text) refl (sym (asked (goal.at.returns-in-Malformed c).After-judge_text) ∙ c.in-Malformed.is))
+    text_not_utf8 c.args.part.now c.args.at c.args.len (omega arith) (omega arith) (omega arith) (judged_malformed (text (goal.at.returns-in-Malformed c).After-judge_text) (sym (asked (goal.at.returns-in-Malformed c).After-judge_text) ∙ c.in-Malformed.is))
 
 pub returns-in-ManyCharacters : goal.returns-in-ManyCharacters
 returns-in-ManyCharacters c =
-    let many = judged_many true (text (goal.at.returns-in-ManyCharacters c).After-judge_text) refl (sym (asked (goal.at.returns-in-ManyCharacters c).After-judge_text) ∙ c.in-ManyCharacters.is) in
+    let many = judged_many (text (goal.at.returns-in-ManyCharacters c).After-judge_text) (sym (asked (goal.at.returns-in-ManyCharacters c).After-judge_text) ∙ c.in-ManyCharacters.is) in
     text_too_many c.args.part.now c.args.at c.args.len (omega arith) (omega arith) (omega arith) many.0 many.1

@@ -1,4 +1,6 @@
 -- `head::store_surface` meets its contract: byte 0, or 1 and the number.
+use Rattle.std.specs.Prelude as code
+use Rattle.projection_patch.specs.declared.contract_primitives.StaticSurfaceId.{StaticSurfaceId}
 use Prim.Native.Nat.{ℕ}
 use Prim.Native.Nat.{ℕ, ◌+◌, ◌≤◌}
 use mathlib.Core.List.{◌∷◌}
@@ -8,7 +10,6 @@ use borrow.Author.Rules.{rules}
 use lib.ListN.{length}
 use Rattle.bytes_wire.specs.Write.{overwrite}
 use Rattle.spec_patch.specs.Encode.{u64, encode_optional}
-use Rattle.projection_patch.specs.declared.patch.OptionalSurfaceId.{OptionalSurfaceId}
 use Rattle.projection_patch.specs.Meaning.{surface_of}
 use Rattle.patch_part_writer.specs.Extent.{surface_size}
 use Rattle.patch_part_writer.proofs.Stored.{one_byte}
@@ -16,18 +17,18 @@ use Rattle.patch_part_writer.proofs.head.store_surface.Goals as goal
 
 pub store_tagged-requires : goal.store_tagged-requires
 store_tagged-requires c =
-    subst (λ (w : OptionalSurfaceId). c.args.at + surface_size w ≤ length c.args.out.now) c.in-Some.is c.requires
+    subst (λ (w : code.Option StaticSurfaceId). c.args.at + surface_size w ≤ length c.args.out.now) c.in-Some.is c.requires
 
 pub returns-in-None : goal.returns-in-None
 unfolding encode_optional
 returns-in-None c =
     c.write_u8_at.ensures.out_after
     ∙ ap (overwrite c.args.out.now c.args.at) (one_byte 0 (omega arith))
-    ∙ sym (ap (λ (w : OptionalSurfaceId). overwrite c.args.out.now c.args.at (encode_optional (surface_of w))) c.in-None.is)
+    ∙ sym (ap (λ (w : code.Option StaticSurfaceId). overwrite c.args.out.now c.args.at (encode_optional (surface_of w))) c.in-None.is)
 
 pub returns-in-Some : goal.returns-in-Some
 unfolding encode_optional
 returns-in-Some c =
     c.store_tagged.ensures
     ∙ ap (λ (x : ℕ). overwrite c.args.out.now c.args.at (1 ∷ u64 x)) c.raw.ensures
-    ∙ sym (ap (λ (w : OptionalSurfaceId). overwrite c.args.out.now c.args.at (encode_optional (surface_of w))) c.in-Some.is)
+    ∙ sym (ap (λ (w : code.Option StaticSurfaceId). overwrite c.args.out.now c.args.at (encode_optional (surface_of w))) c.in-Some.is)

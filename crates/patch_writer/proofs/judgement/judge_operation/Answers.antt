@@ -1,16 +1,17 @@
 -- `judgement::judge_operation` meets its contract: an arm for each kind of operation.
+use Rattle.std.specs.Prelude as code
 use mathlib.Core.Path.{◌≡◌, sym, ap, ◌∙◌}
 use borrow.Author.Rules.{rules}
 use Rattle.spec_patch.specs.Write.{value_passes}
 use Rattle.projection_patch.specs.Meaning.{edition_of}
 use Rattle.projection_patch.specs.declared.patch.ProjectionPatchOperation.{ProjectionPatchOperation}
-use Rattle.projection_patch.specs.declared.text_rule.TextJudgement.{TextJudgement}
+use Rattle.projection_patch.specs.declared.text_rule.TextFault.{TextFault}
 use Rattle.patch_writer.specs.Survey.{judged_value, judged_operation}
 use Rattle.patch_writer.proofs.Judged.{availability_fits, remove_fits, move_fits}
 use Rattle.patch_writer.proofs.judgement.judge_operation.Goals as goal
 use Rattle.patch_writer.proofs.judgement.judge_operation.Goals.{Start}
 
-abbrev judgement : Start → ProjectionPatchOperation → TextJudgement
+abbrev judgement : Start → ProjectionPatchOperation → code.Result (Unit {0}) TextFault
 judgement c o = judged_operation (edition_of c.args.edition) c.args.texts.now o
 
 pub returns-in-SetBindingValue : goal.returns-in-SetBindingValue

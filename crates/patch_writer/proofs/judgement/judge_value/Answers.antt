@@ -1,15 +1,16 @@
 -- `judgement::judge_value` meets its contract: an arm for each kind.
+use Rattle.std.specs.Prelude as code
 use mathlib.Core.Path.{◌≡◌, sym, ap, ◌∙◌}
 use borrow.Author.Rules.{rules}
 use Rattle.projection_patch.specs.Meaning.{edition_of}
 use Rattle.projection_patch.specs.declared.patch.ProjectionPatchValue.{ProjectionPatchValue}
-use Rattle.projection_patch.specs.declared.text_rule.TextJudgement.{TextJudgement}
+use Rattle.projection_patch.specs.declared.text_rule.TextFault.{TextFault}
 use Rattle.patch_writer.specs.Survey.{judged_value}
 use Rattle.patch_writer.proofs.Judged.{quad_fits, signed_fits, unsigned_fits, text_judged, score_judged}
 use Rattle.patch_writer.proofs.judgement.judge_value.Goals as goal
 use Rattle.patch_writer.proofs.judgement.judge_value.Goals.{Start}
 
-abbrev judgement : Start → ProjectionPatchValue → TextJudgement
+abbrev judgement : Start → ProjectionPatchValue → code.Result (Unit {0}) TextFault
 judgement c v = judged_value (edition_of c.args.edition) c.args.texts.now v
 
 pub returns-in-Quad : goal.returns-in-Quad

@@ -1,4 +1,5 @@
 -- `survey::survey_operations` meets its contract. The invariant: what is left of the operations answers as the whole does. The measure is what is left.
+use Rattle.std.specs.Prelude as code
 use Prim.Native.Nat.{ℕ, ◌+◌, ◌-◌, ◌≤◌, ◌<◌}
 use mathlib.Core.Path.{◌≡◌, sym, ap, subst, ◌∙◌}
 use mathlib.Core.List.{List}
@@ -10,7 +11,7 @@ use Rattle.spec_patch.specs.Sizes.{text_bytes}
 use Rattle.spec_patch.specs.Edition.{Edition}
 use Rattle.projection_patch.specs.Meaning.{edition_of}
 use Rattle.projection_patch.specs.declared.patch.OperationPlace.{OperationPlace}
-use Rattle.projection_patch.specs.declared.text_rule.TextJudgement.{TextJudgement}
+use Rattle.projection_patch.specs.declared.text_rule.TextFault.{TextFault}
 use Rattle.patch_part_writer.specs.declared.extent.TextPlace.{TextPlace}
 use Rattle.patch_part_writer.specs.ExtentLaws.{operation_small}
 use Rattle.patch_part_writer.proofs.PartsLaws.{size_kept}
@@ -22,9 +23,9 @@ use Rattle.patch_writer.proofs.survey.survey_operations.Goals as goal
 use Rattle.patch_writer.proofs.survey.survey_operations.Goals.{Start}
 
 -- the size and the judgement as the calls give them
-turned : (ed : Edition) (texts : List ℕ) (ps : List OperationPlace) (bytes i : ℕ) {n m : ℕ} {a b : TextJudgement} → n ≡ m → a ≡ b → OperationsSeen ed texts ps (bytes + m) b i → OperationsSeen ed texts ps (bytes + n) a i
+turned : (ed : Edition) (texts : List ℕ) (ps : List OperationPlace) (bytes i : ℕ) {n m : ℕ} {a b : code.Result (Unit {0}) TextFault} → n ≡ m → a ≡ b → OperationsSeen ed texts ps (bytes + m) b i → OperationsSeen ed texts ps (bytes + n) a i
 turned ed texts ps bytes i {n} {m} {a} {b} e f seen =
-    subst (λ (k : ℕ). OperationsSeen ed texts ps (bytes + k) a i) (sym e) (subst (λ (t : TextJudgement). OperationsSeen ed texts ps (bytes + m) t i) (sym f) seen)
+    subst (λ (k : ℕ). OperationsSeen ed texts ps (bytes + k) a i) (sym e) (subst (λ (t : code.Result (Unit {0}) TextFault). OperationsSeen ed texts ps (bytes + m) t i) (sym f) seen)
 
 long : (c : Start) → length c.args.set.operations ≡ set_places
 long c = search (rules, unmapped)

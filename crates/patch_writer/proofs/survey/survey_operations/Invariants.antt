@@ -1,3 +1,4 @@
+use Rattle.std.specs.Prelude as code
 use Prim.Native.Nat.{ℕ, ◌+◌, ◌-◌, ◌≤◌, ◌<◌}
 use mathlib.Core.Path.{◌≡◌, sym, ap, subst, ◌∙◌}
 use mathlib.Core.List.{List}
@@ -9,7 +10,7 @@ use Rattle.spec_patch.specs.Sizes.{text_bytes}
 use Rattle.spec_patch.specs.Edition.{Edition}
 use Rattle.projection_patch.specs.Meaning.{edition_of}
 use Rattle.projection_patch.specs.declared.patch.OperationPlace.{OperationPlace}
-use Rattle.projection_patch.specs.declared.text_rule.TextJudgement.{TextJudgement}
+use Rattle.projection_patch.specs.declared.text_rule.TextFault.{TextFault}
 use Rattle.patch_part_writer.specs.declared.extent.TextPlace.{TextPlace}
 use Rattle.patch_part_writer.specs.ExtentLaws.{operation_small}
 use Rattle.patch_part_writer.proofs.PartsLaws.{size_kept}

@@ -1,16 +1,16 @@
 -- `script_reasons::figures::print_takes` meets its contract, case by case.
+use Rattle.std.specs.Prelude as code
 use Prim.Native.Nat.{ℕ}
 use mathlib.Core.Path.{sym, ap}
 use mathlib.Core.List.{List, [], ◌∷◌}
 use Rattle.spec_listing.specs.Listing.{fields}
 use Rattle.spec_replay.specs.Reasons.{takes_field}
 use Rattle.bytes_printer.proofs.PrintsLaws.{◌⨾◌, prints_same}
-use Rattle.projection_patch.specs.ReadAnswers.{optional_of}
-use Rattle.projection_patch.specs.declared.read_values.OptionalNumber.{OptionalNumber}
+use Rattle.spec_lists.specs.Options.{optional_of}
 use borrow.Author.Rules.{rules}
 use Rattle.script_reasons.proofs.figures.print_takes.Goals as goal
 
-abbrev word : OptionalNumber → List ℕ
+abbrev word : code.Option ℕ → List ℕ
 word x = fields (takes_field (optional_of x) ∷ [])
 
 pub returns-in-None : goal.returns-in-None

@@ -1,4 +1,6 @@
 -- `settle_beside` meets its contract: the key, then a named neighbour.
+use Rattle.std.specs.Prelude as code
+use Rattle.projection_patch.specs.declared.contract_primitives.CollectionKey.{CollectionKey}
 use Prim.Native.Nat.{ℕ, ◌<◌}
 use mathlib.Core.Path.{◌≡◌, sym, subst}
 use mathlib.Core.List.{List, [], ◌∷◌}
@@ -7,7 +9,6 @@ use borrow.Author.Rules.{rules}
 use Rattle.spec_dependencies.specs.Expectations.{Expectation, neighbour}
 use Rattle.spec_dependencies.specs.Settled.{Settled, judge, judge_all}
 use Rattle.projection_patch.specs.Meaning.{before_of}
-use Rattle.projection_patch.specs.declared.patch.OptionalKey.{OptionalKey}
 use Rattle.set_dependencies.specs.SettledRows.{row_capacity, SettledIn}
 use Rattle.set_dependencies.specs.Settling.{expectation_of, SettlesTo, Judges}
 use Rattle.set_dependencies.specs.SettlingLaws.{judged_count, judged_on, judged_none, judged_one}
@@ -27,7 +28,7 @@ first k r is t s room =
     (λ i. expectation_of (k.raw-node.ensures i) (k.raw.ensures i) k.args.key_use) (k.settle.ensures t s room))
 
 -- the contract, by what the neighbour is
-beside : (k : After-settle) {b : OptionalKey} → k.before.before.before.before.before.args.before ≡ b → (r : Settling) (exit : List ℕ)
+beside : (k : After-settle) {b : code.Option CollectionKey} → k.before.before.before.before.before.args.before ≡ b → (r : Settling) (exit : List ℕ)
     → Judges k.before.before.before.before.before.args.places k.before.before.before.before.before.args.table.now exit r (own k ∷ neighbour k.before.before.before.before.before.args.collection.0 (before_of b))
     → Judges k.before.before.before.before.before.args.places k.before.before.before.before.before.args.table.now exit r (own k ∷ neighbour k.before.before.before.before.before.args.collection.0 (before_of k.before.before.before.before.before.args.before))
 beside k is r exit = subst (λ b. Judges k.before.before.before.before.before.args.places k.before.before.before.before.before.args.table.now exit r (own k ∷ neighbour k.before.before.before.before.before.args.collection.0 (before_of b))) (sym is)
