@@ -1,5 +1,5 @@
 -- What an operation changes, as three numbers of a list: 01, 'Patch checks', kind 3.
-use Rattle.std.specs.Prelude.{ℕ, ◌+◌, Bool, false, ◌&&◌, ◌||◌, List, [], ◌∷◌, ◌++◌, eqb, take, drop}
+use Rattle.std.specs.Prelude.{ℕ, ◌+◌, Bool, false, ◌&&◌, ◌||◌, List, [], ◌∷◌, ◌++◌, eqb, get_or, take, drop}
 use Rattle.spec_patch.specs.Patch.{Operation}
 use Rattle.spec_checks.specs.Target as model
 use Rattle.check_targets.specs.declared.MutationTarget.{MutationTarget}
@@ -12,6 +12,10 @@ made_of k f s = record { kind = k; first = f; second = s }
 
 unfoldable pub equal_targets : model.MutationTarget → model.MutationTarget → Bool
 equal_targets a b = eqb a.kind b.kind && (eqb a.first b.first && eqb a.second b.second)
+
+-- the target, told of three numbers with the last first
+abbrev pub tells_target : model.MutationTarget → List ℕ → Bool
+tells_target t n = eqb (get_or n 2 0) t.second && (eqb (get_or n 1 0) t.first && eqb (get_or n 0 0) t.kind)
 
 abbrev pub numbers_of : model.MutationTarget → List ℕ
 numbers_of t = t.kind ∷ t.first ∷ t.second ∷ []

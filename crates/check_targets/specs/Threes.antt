@@ -1,5 +1,5 @@
 -- Three numbers of a list at a time.
-use Rattle.std.specs.Prelude.{ℕ, suc, ◌+◌, ◌-◌, ◌≤◌, ◌≡◌, List, ◌∷◌, length, drop, get_or}
+use Rattle.std.specs.Prelude.{ℕ, suc, ◌+◌, ◌≤◌, ◌≡◌, List, ◌∷◌, length, drop, get_or}
 use Rattle.std.proofs.Common.{arith, drop-cons}
 
 pub three_at : (ns : List ℕ) (at : ℕ) → at + 3 ≤ length ns → drop at ns ≡ get_or ns at 0 ∷ get_or ns (at + 1) 0 ∷ get_or ns (at + 2) 0 ∷ drop (at + 3) ns

@@ -2,10 +2,11 @@
 #![tactic(auto)]
 
 ghost use Rattle.std.specs.Prelude.{◌≡◌, List, ◌++◌, ℕ, ◌+◌, ◌≤◌, length, take};
+ghost use Rattle.std.specs.List.{list_any};
 ghost use Rattle.spec_checks.specs.Target.{mutation_target};
 ghost use Rattle.spec_checks.specs.PatchChecks.{is_self, before_self_lem};
 ghost use Rattle.projection_patch.specs.Meaning.{before_of, operation_of};
-ghost use Rattle.check_targets.specs.Targets.{check_target_of, made_of, equal_targets, numbers_of, target_seen, with_target};
+ghost use Rattle.check_targets.specs.Targets.{check_target_of, made_of, tells_target, numbers_of, target_seen, with_target};
 ghost use Rattle.check_targets.specs.Marks.{mark_of, Marked};
 
 use projection_patch::contract_primitives::CollectionKey;
@@ -48,23 +49,19 @@ pub fn mutation_target(operation: ProjectionPatchOperation) -> MutationTarget
     ensures { (texts : List ℕ) → check_target_of result ≡ mutation_target (operation_of texts operation) }
 {
     match operation {
-        ProjectionPatchOperation::SetBindingValue { target, value: _ } => {
+        ProjectionPatchOperation::SetBindingValue { target, .. } => {
             target_of(1, target.node.raw(), target.slot.0 as u64)
         }
-        ProjectionPatchOperation::SetNodeAvailability {
-            node,
-            availability: _,
-        } => target_of(2, node.raw(), 0),
+        ProjectionPatchOperation::SetNodeAvailability { node, .. } => target_of(2, node.raw(), 0),
         ProjectionPatchOperation::CollectionInsert {
             collection,
             key,
-            before: _,
-            value: _,
+            ..
         } => target_of(3, collection.raw(), key.raw()),
         ProjectionPatchOperation::CollectionUpdate {
             collection,
             key,
-            value: _,
+            ..
         } => target_of(4, collection.raw(), key.raw()),
         ProjectionPatchOperation::CollectionRemove { collection, key } => {
             target_of(5, collection.raw(), key.raw())
@@ -72,7 +69,7 @@ pub fn mutation_target(operation: ProjectionPatchOperation) -> MutationTarget
         ProjectionPatchOperation::CollectionMove {
             collection,
             key,
-            before: _,
+            ..
         } => target_of(6, collection.raw(), key.raw()),
     }
 }
@@ -92,72 +89,27 @@ pub fn before_self(operation: ProjectionPatchOperation) -> bool
     ensures { (texts : List ℕ) → result ≡ before_self_lem (operation_of texts operation) }
 {
     match operation {
-        ProjectionPatchOperation::SetBindingValue {
-            target: _,
-            value: _,
-        } => false,
-        ProjectionPatchOperation::SetNodeAvailability {
-            node: _,
-            availability: _,
-        } => false,
-        ProjectionPatchOperation::CollectionInsert {
-            collection: _,
-            key,
-            before,
-            value: _,
-        } => is_self(key, before),
-        ProjectionPatchOperation::CollectionUpdate {
-            collection: _,
-            key: _,
-            value: _,
-        } => false,
-        ProjectionPatchOperation::CollectionRemove {
-            collection: _,
-            key: _,
-        } => false,
-        ProjectionPatchOperation::CollectionMove {
-            collection: _,
-            key,
-            before,
-        } => is_self(key, before),
+        ProjectionPatchOperation::CollectionInsert { key, before, .. } => is_self(key, before),
+        ProjectionPatchOperation::CollectionMove { key, before, .. } => is_self(key, before),
+        _ => false,
     }
 }
 
-// The key or slot is tested first: operations of a patch mostly differ there.
-fn same_target(a: MutationTarget, b: MutationTarget) -> bool
-    ensures { result ≡ equal_targets (check_target_of a) (check_target_of b) }
+// Whether the target is one of those told by three numbers. The key or slot is tested first: operations of a patch mostly differ there.
+fn is_among(targets: &[[u64; MutationTarget::NUMBERS]], target: MutationTarget) -> bool
+    ensures { result ≡ list_any (tells_target (check_target_of target)) targets.now }
 {
-    if a.second != b.second {
-        return false;
-    }
-    if a.first != b.first {
-        return false;
-    }
-    a.kind == b.kind
+    targets.iter().any(|&[kind, first, second]| {
+        second == target.second && first == target.first && kind == target.kind
+    })
 }
 
 // Whether the target is among those that stand in targets, three numbers each.
 fn target_seen(targets: &[u64], target: MutationTarget) -> bool
     ensures { result ≡ target_seen (check_target_of target) targets.now }
 {
-    let mut at = 0;
-    while 3 <= targets.len() - at {
-        let kind = targets[at];
-        let first = targets[at + 1];
-        let second = targets[at + 2];
-        if same_target(
-            target,
-            MutationTarget {
-                kind,
-                first,
-                second,
-            },
-        ) {
-            return true;
-        }
-        at += 3;
-    }
-    false
+    let (targets, _) = targets.as_chunks::<{ MutationTarget::NUMBERS }>();
+    is_among(targets, target)
 }
 
 // Puts a target behind the first used numbers.
@@ -176,7 +128,7 @@ fn seen_before(targets: &mut [u64], used: usize, target: MutationTarget) -> bool
     ensures seen { result ≡ target_seen (check_target_of target) (take used targets.old) }
     ensures kept { targets.new ≡ with_target used (check_target_of target) targets.old }
 {
-    let seen = target_seen(&targets[0..used], target);
+    let seen = target_seen(&targets[..used], target);
     put_target(targets, used, target);
     seen
 }

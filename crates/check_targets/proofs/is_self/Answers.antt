@@ -1,6 +1,5 @@
 -- `check_targets::is_self` meets its contract.
 use Rattle.spec_checks.specs.PatchChecks.{is_self}
-use borrow.Author.Rules.{rules}
 use Rattle.check_targets.proofs.is_self.Goals as goal
 
 pub returns-in-None : goal.returns-in-None

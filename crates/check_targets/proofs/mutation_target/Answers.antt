@@ -1,7 +1,6 @@
 -- `check_targets::mutation_target` meets its contract: each kind of operation with the ids that it names.
 use mathlib.Core.Path.{◌∙◌}
 use Rattle.spec_checks.specs.Target.{mutation_target}
-use borrow.Author.Rules.{rules}
 use Rattle.check_targets.proofs.mutation_target.Goals as goal
 
 pub returns-in-SetBindingValue : goal.returns-in-SetBindingValue

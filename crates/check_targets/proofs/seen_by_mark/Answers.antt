@@ -1,12 +1,11 @@
 -- `check_targets::seen_by_mark` meets its contract: a target without a mark was not seen; else the scan tells.
 use mathlib.Core.Path.{◌≡◌, sym, ap, ◌∙◌}
-use Prim.Native.Nat.{ℕ, ◌<◌}
+use Prim.Native.Nat.{ℕ}
 use native.Mathlib.Omega.{arith}
-use lib.ListN.{length, get_or, take}
+use lib.ListN.{get_or, take}
 use Rattle.check_targets.specs.Targets.{check_target_of}
 use Rattle.check_targets.specs.Marks.{mark_of}
 use Rattle.check_targets.specs.MarksLaws.{mark_within, unmarked_unseen, marked_more}
-use borrow.Author.Rules.{rules}
 use Rattle.check_targets.proofs.seen_by_mark.Goals as goal
 
 -- the place of the mark is within the marks
