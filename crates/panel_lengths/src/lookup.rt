@@ -31,8 +31,7 @@ fn row_length(table: &[u8], i: usize) -> u64
 pub fn collection_length(table: &[u8], collection: u64) -> u64
     ensures { (p : Projection) → StoredLengths table.now (collection_lengths p) → Valid p → result ≡ entry_count p collection }
 {
-    let mut i: usize = 0;
-    while i < LocalProjectionState::ENTRIES {
+    for i in 0..LocalProjectionState::ENTRIES {
         let length = row_length(table, i);
         if length == 0 {
             return 0;
@@ -40,7 +39,6 @@ pub fn collection_length(table: &[u8], collection: u64) -> u64
         if row_collection(table, i) == collection {
             return length;
         }
-        i += 1;
     }
     0
 }

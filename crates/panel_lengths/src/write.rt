@@ -27,14 +27,12 @@ fn run_end(plan: &[u8], from: usize, count: usize, collection: u64) -> usize
     requires { (from ≤ count) × (count ≤ projection_entries) }
     ensures { result ≡ from + leading collection (collections_from from (count - from) plan.now) }
 {
-    let mut i = from;
-    while i < count {
+    for i in from..count {
         if collection_at(plan, i) != collection {
             return i;
         }
-        i += 1;
     }
-    i
+    count
 }
 
 // Writes a row for each run of rows of one collection, and zeros behind them.
@@ -72,7 +70,7 @@ pub fn write_lengths(plan: &[u8], count: usize, used: usize, to: &mut [u8]) -> b
     if to.len() != LocalProjectionState::LENGTH_BYTES {
         return false;
     }
-    let size = panel_writing::greater(count, used) * panel_rows::LENGTH_WIDTH;
+    let size = count.max(used) * panel_rows::LENGTH_WIDTH;
     write_runs(plan, count, &mut to[0..size]);
     true
 }

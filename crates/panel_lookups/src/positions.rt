@@ -43,11 +43,9 @@ pub fn entry_count(table: &[u8], count: usize, collection: u64) -> usize
     if table.len() / panel_rows::ENTRY_WIDTH < count {
         return 0;
     }
-    let mut n: usize = 0;
-    let mut i: usize = 0;
-    while i < count {
+    let mut n = 0;
+    for i in 0..count {
         n += counts_for(table, count, i, collection);
-        i += 1;
     }
     n
 }
@@ -61,14 +59,12 @@ fn find_nth(table: &[u8], count: usize, collection: u64, position: usize) -> Opt
         return None;
     }
     let mut left = position;
-    let mut i: usize = 0;
-    while i < count {
+    for i in 0..count {
         let n = counts_for(table, count, i, collection);
         if left < n {
             return Some(i);
         }
         left -= n;
-        i += 1;
     }
     None
 }

@@ -32,12 +32,10 @@ fn number_rows(from: &[u8], width: usize, count: usize, front: usize, row: &mut 
         → count * (front + source_width) ≤ length to.old → HoldsRows (front + source_width) count to.new (numbered_rows front 0 rows) }
 {
     let size = front + super::SOURCE_WIDTH;
-    let mut i: usize = 0;
-    while i < count {
+    for i in 0..count {
         let old = bytes_records::record_at(from, width, count, i);
         number_row(old, front, i, row);
         bytes_records::insert_record(to, size, i, i, row);
-        i += 1;
     }
 }
 

@@ -2,7 +2,7 @@
 // set. What is read is lent read-only, and a refusal leaves every byte of the new table.
 #![tactic(auto)]
 
-ghost use Rattle.std.specs.Prelude.{◌≡◌, true, List, ℕ, ◌+◌, ◌*◌, ◌≤◌, ◌<◌, min, max, length};
+ghost use Rattle.std.specs.Prelude.{◌≡◌, true, List, ℕ, ◌+◌, ◌*◌, ◌≤◌, ◌<◌, length};
 ghost use Rattle.spec_lists.specs.Lists.{All};
 ghost use Rattle.spec_patch.specs.Sizes.{projection_bindings, projection_availabilities, projection_entries};
 ghost use Rattle.spec_projection.specs.Projection.{NodeAvailability, Projection};
@@ -84,15 +84,6 @@ fn write_planned(
     }
 }
 
-fn lesser(a: usize, b: usize) -> usize
-    ensures { result ≡ min a b }
-{
-    if a < b {
-        return a;
-    }
-    b
-}
-
 // The source that stands at a position of the plan. Where its bytes are there, the compiler makes one load of them.
 fn source_at(plan: &[u8], at: usize) -> usize
     requires { at ≤ projection_entries * entry_width }
@@ -126,16 +117,13 @@ fn run_length(key: usize, plan: &[u8], count: usize, i: usize, source: usize) ->
         return 1;
     }
     let width = key + SOURCE_WIDTH;
-    let most = lesser(count - i, LocalProjectionState::ENTRIES - source);
-    let mut n: usize = 1;
-    while n < most {
-        if has_source(plan, (i + n) * width + key, source + n) {
-            n += 1;
-        } else {
+    let most = (count - i).min(LocalProjectionState::ENTRIES - source);
+    for n in 1..most {
+        if !has_source(plan, (i + n) * width + key, source + n) {
             return n;
         }
     }
-    n
+    most
 }
 
 // Writes so many rows from the front of the new table, and zeros behind them.
@@ -167,16 +155,6 @@ fn write_rows(
     bytes_records::moves::clear(&mut to[used..]);
 }
 
-// The greater of two counts: the rows that are used now, or were.
-pub fn greater(a: usize, b: usize) -> usize
-    ensures { result ≡ max a b }
-{
-    if a < b {
-        return b;
-    }
-    a
-}
-
 // Writes the rows of a plan into a table of so many places, of which so many were used. Answers whether it is that table, and has a place
 // for each.
 fn write_table(
@@ -204,7 +182,7 @@ fn write_table(
     if to.len() != capacity * width {
         return false;
     }
-    let size = greater(count, used) * width;
+    let size = count.max(used) * width;
     write_rows(key, plan, count, from, set, edition, &mut to[0..size]);
     true
 }
@@ -288,7 +266,7 @@ pub fn write_availabilities(plan: &[u8], count: usize, used: usize, to: &mut [u8
     if to.len() != LocalProjectionState::AVAILABILITY_BYTES {
         return false;
     }
-    let size = greater(count, used) * panel_rows::AVAILABILITY_WIDTH;
+    let size = count.max(used) * panel_rows::AVAILABILITY_WIDTH;
     bytes_records::moves::copy(&plan[0..size], &mut to[0..size]);
     true
 }

@@ -10,7 +10,4 @@ use Rattle.panel_writing.proofs.Bytes.{run_of_one, run_and_next}
 use Rattle.panel_writing.proofs.run_length.Given as goal
 
 abbrev pub invariant-loop-n : goal.invariant-loop-n
-invariant-loop-n l = (1 ≤ l.n) × ((l.n ≤ l.most) × RowRun l.key l.plan l.i l.source l.n)
-
-abbrev pub decreases-loop-n : goal.decreases-loop-n
-decreases-loop-n l = l.most - l.n
+invariant-loop-n l = RowRun l.key l.plan l.i l.source l.n

@@ -15,7 +15,4 @@ use Rattle.panel_lengths.specs.LengthRowsLaws.{few_rows, lengths_past, lengths_e
 use Rattle.panel_lengths.proofs.lookup.collection_length.Given as goal
 
 abbrev pub invariant-loop-i : goal.invariant-loop-i
-invariant-loop-i s = (s.i ≤ projection_entries) × ((l : List CollectionLength) → StoredLengths s.table l → All FitsLength l → length_of s.collection (drop s.i l) ≡ length_of s.collection l)
-
-abbrev pub decreases-loop-i : goal.decreases-loop-i
-decreases-loop-i l = projection_entries - l.i
+invariant-loop-i s = (l : List CollectionLength) → StoredLengths s.table l → All FitsLength l → length_of s.collection (drop s.i l) ≡ length_of s.collection l

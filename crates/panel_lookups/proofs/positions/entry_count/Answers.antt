@@ -1,4 +1,4 @@
--- `entry_count` meets its contract: what is counted, with the entries from the position on, is the whole; the measure is the rows left.
+-- `entry_count` meets its contract: what is counted, with the entries from the position on, is the whole.
 use Prim.Native.Nat.{◌+◌, ◌-◌, ◌≤◌}
 use mathlib.Core.Path.{◌≡◌}
 use mathlib.Core.List.{List, map}
@@ -20,7 +20,7 @@ pub returns-then-table-count : goal.returns-then-table-count
 returns-then-table-count c = λ p s v. absurd (not_too_many s.rows (omega arith) c.if-table-count.true)
 
 pub loop-i-init : goal.loop-i-init
-loop-i-init c = (omega arith, (omega arith, λ es fit t. omega arith))
+loop-i-init c = (omega arith, λ es fit t. omega arith)
 
 pub overflow_add-n : goal.overflow_add-n
 overflow_add-n c = omega (arith, c.counts_for-n.ensures.within)
@@ -28,15 +28,12 @@ overflow_add-n c = omega (arith, c.counts_for-n.ensures.within)
 pub loop-i-preserved : goal.loop-i-preserved
 loop-i-preserved c = (
   omega (arith, c.counts_for-n.ensures.within),
-  (
-    search rules,
-    λ es fit t.
-        let turned = counts_turn c.args.collection es no_entry c.loop-i.i (omega (arith, holds_length entry_row es t)) c.loop-i.n (c.loop-i.invariant.1.1 es fit t) in
-        omega (arith, c.counts_for-n.ensures.counted es no_entry fit t (search rules)),
-  ),
+  λ es fit t.
+      let turned = counts_turn c.args.collection es no_entry c.loop-i.i (omega (arith, holds_length entry_row es t)) c.loop-i.n (c.loop-i.invariant.1 es fit t) in
+      omega (arith, c.counts_for-n.ensures.counted es no_entry fit t (search rules)),
 )
 
 pub returns : goal.returns
 unfolding entry_count entries_of
 returns c =
-    λ p s v. omega (arith, c.loop-i.invariant.1.1 p.entries v.fit_entries s.rows, counts_end c.args.collection p.entries c.loop-i.i (omega (arith, holds_length entry_row p.entries s.rows)))
+    λ p s v. omega (arith, c.loop-i.invariant.1 p.entries v.fit_entries s.rows, counts_end c.args.collection p.entries c.loop-i.i (omega (arith, holds_length entry_row p.entries s.rows)))

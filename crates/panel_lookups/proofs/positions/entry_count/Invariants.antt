@@ -17,7 +17,4 @@ use Rattle.panel_lookups.proofs.positions.entry_count.Given as goal
 
 abbrev pub invariant-loop-i : goal.invariant-loop-i
 invariant-loop-i l =
-    (l.n ≤ l.i) × ((l.i ≤ l.count) × ((es : List Entry) → All FitsEntry es → HoldsRows entry_width l.count l.table (map entry_row es) → l.n + length (entries_in l.collection (drop l.i es)) ≡ length (entries_in l.collection es)))
-
-abbrev pub decreases-loop-i : goal.decreases-loop-i
-decreases-loop-i l = l.count - l.i
+    (l.n ≤ l.i) × ((es : List Entry) → All FitsEntry es → HoldsRows entry_width l.count l.table (map entry_row es) → l.n + length (entries_in l.collection (drop l.i es)) ≡ length (entries_in l.collection es))

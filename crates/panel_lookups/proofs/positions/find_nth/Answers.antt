@@ -1,4 +1,4 @@
--- `find_nth` meets its contract: from the position on the entry that is left to find is the one that is sought; the measure is the rows left.
+-- `find_nth` meets its contract: from the position on the entry that is left to find is the one that is sought.
 use Prim.Native.Nat.{ℕ, ◌+◌, ◌-◌, ◌≤◌, ◌<◌}
 use mathlib.Core.Path.{◌≡◌, refl, sym, ap, ◌∙◌}
 use mathlib.Core.List.{List, map}
@@ -20,7 +20,7 @@ pub returns-then-table-count : goal.returns-then-table-count
 returns-then-table-count c = λ es fit t. absurd (not_too_many t (omega arith) c.if-table-count.true)
 
 pub loop-i-init : goal.loop-i-init
-loop-i-init c = (omega arith, λ es fit t. refl)
+loop-i-init c = λ es fit t. refl
 
 pub returns-then-left-n : goal.returns-then-left-n
 returns-then-left-n c =
@@ -31,19 +31,18 @@ returns-then-left-n c =
       entry = get_or es c.loop-i.i no_entry;
       fits = fits_at es c.loop-i.i no_entry below fit;
       row = row_at_entry es c.loop-i.i no_entry below;
-      is = nth_found c.args.collection es no_entry c.loop-i.i below c.args.position c.loop-i.left (omega arith) (c.loop-i.invariant.1 es fit t);
+      is = nth_found c.args.collection es no_entry c.loop-i.i below c.args.position c.loop-i.left (omega arith) (c.loop-i.invariant es fit t);
     }
 
 pub loop-i-preserved : goal.loop-i-preserved
 loop-i-preserved c = (
-  search rules,
-  λ es fit t.
-      let below : c.loop-i.i < length es = omega (arith, holds_length entry_row es t) in
-      let own = c.counts_for-n.ensures.counted es no_entry fit t (search rules) in
-      ap (λ (k : ℕ). get_elem? (entries_in c.args.collection (drop (c.loop-i.i + 1) es)) (c.loop-i.left - k)) own
-      ∙ nth_turn c.args.collection es no_entry c.loop-i.i below c.args.position c.loop-i.left (omega arith) (c.loop-i.invariant.1 es fit t),
-)
+    λ es fit t.
+    let below : c.loop-i.i < length es = omega (arith, holds_length entry_row es t) in
+    let own = c.counts_for-n.ensures.counted es no_entry fit t (search rules) in
+    ap (λ (k : ℕ). get_elem? (entries_in c.args.collection (drop (c.loop-i.i + 1) es)) (c.loop-i.left - k)) own
+    ∙ nth_turn c.args.collection es no_entry c.loop-i.i below c.args.position c.loop-i.left (omega arith) (c.loop-i.invariant es fit t)
+    )
 
 pub returns : goal.returns
 returns c =
-    λ es fit t. sym (c.loop-i.invariant.1 es fit t) ∙ nth_end c.args.collection es c.loop-i.i c.loop-i.left (omega (arith, holds_length entry_row es t))
+    λ es fit t. sym (c.loop-i.invariant es fit t) ∙ nth_end c.args.collection es c.loop-i.i c.loop-i.left (omega (arith, holds_length entry_row es t))

@@ -17,7 +17,4 @@ use Rattle.panel_lookups.proofs.positions.find_nth.Given as goal
 
 abbrev pub invariant-loop-i : goal.invariant-loop-i
 invariant-loop-i l =
-    (l.i ≤ l.count) × ((es : List Entry) → All FitsEntry es → HoldsRows entry_width l.count l.table (map entry_row es) → get_elem? (entries_in l.collection (drop l.i es)) l.left ≡ get_elem? (entries_in l.collection es) l.position)
-
-abbrev pub decreases-loop-i : goal.decreases-loop-i
-decreases-loop-i l = l.count - l.i
+    (es : List Entry) → All FitsEntry es → HoldsRows entry_width l.count l.table (map entry_row es) → get_elem? (entries_in l.collection (drop l.i es)) l.left ≡ get_elem? (entries_in l.collection es) l.position

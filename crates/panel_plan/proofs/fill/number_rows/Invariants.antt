@@ -12,8 +12,5 @@ use Rattle.panel_plan.proofs.fill.number_rows.Given as goal
 
 abbrev pub invariant-loop-i : goal.invariant-loop-i
 invariant-loop-i l =
-    (l.i ≤ l.count) × (length l.row ≡ l.front + source_width) × (length l.to ≡ length l.initial.to) × ((rows : List (List ℕ)) → l.front ≤ l.width → HoldsRows l.width l.count l.from rows → HoldsRows (l.front + source_width) 0 l.initial.to []
+    (length l.row ≡ l.front + source_width) × (length l.to ≡ length l.initial.to) × ((rows : List (List ℕ)) → l.front ≤ l.width → HoldsRows l.width l.count l.from rows → HoldsRows (l.front + source_width) 0 l.initial.to []
     → l.count * (l.front + source_width) ≤ length l.initial.to → Numbering l.front l.i l.to rows)
-
-abbrev pub decreases-loop-i : goal.decreases-loop-i
-decreases-loop-i l = l.count - l.i
