@@ -10,7 +10,6 @@ ghost use Rattle.check_quick.specs.QuickAnswers.{previous_of, patch_answer};
 use crate::quick_operations;
 use crate::quick_operations::OperationsChecked;
 use check_findings::{envelope_checks, found, ids};
-use patch_sets::PatchHeadRead;
 use projection_patch::patch::{ProjectionPatch, ProjectionPatchEdition, ProjectionPatchEnvelope};
 use projection_patch::read_values::ProjectionPatchReadFault;
 
@@ -63,7 +62,7 @@ pub fn check_patch(
         (length set.now) (read_patch (edition_of edition) (drop at set.now)) }
 {
     match patch_sets::read_patch_head(&set[at..]) {
-        PatchHeadRead::Read(head, taken) => match quick_operations::check_operations(
+        Ok((head, taken)) => match quick_operations::check_operations(
             set,
             edition,
             at + taken,
@@ -82,7 +81,7 @@ pub fn check_patch(
             ),
             OperationsChecked::Refused(fault) => PatchCheckRead::Refused(fault),
         },
-        PatchHeadRead::Refused(fault) => PatchCheckRead::Refused(fault),
+        Err(fault) => PatchCheckRead::Refused(fault),
     }
 }
 

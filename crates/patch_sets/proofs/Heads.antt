@@ -1,38 +1,24 @@
 -- The heading of a set, and ids of an envelope, as the code finds them.
-use Prim.Native.Nat.{ℕ, ◌+◌}
+use Prim.Native.Nat.{ℕ}
 use mathlib.Core.Path.{◌≡◌, refl, sym, ap, ◌∙◌}
 use mathlib.Core.Bool.{Bool, true, false}
 use mathlib.Core.List.{List, [], ◌∷◌, ◌++◌, append_assoc}
 use mathlib.Core.Option.{none, some}
 use native.Mathlib.Omega.{arith}
-use lib.Dec.{eqb, leb, lit<}
-use lib.ListN.{length, take, drop}
+use lib.Dec.{eqb, lit<}
+use lib.ListN.{length, drop}
 use lib.Seq.{drop_at, drop-drop}
 use Rattle.std.specs.Prelude.{if◌then◌else◌}
-use Rattle.spec_lists.specs.Bytes.{Bytes, number_of}
+use Rattle.spec_lists.specs.Bytes.{Bytes}
 use Rattle.spec_lists.proofs.BytesLaws.{length_little_endian}
 use Rattle.spec_patch.specs.Edition.{Edition, letters}
 use Rattle.spec_patch.specs.Encode.{u32, heading}
-use Rattle.spec_patch.specs.Reader.{Fault, Result, read, refused, malformed, onward, literal}
-use Rattle.spec_patch.specs.Read.{optional_after, read_optional}
+use Rattle.spec_patch.specs.Reader.{Fault, Result, read, refused, malformed, literal}
 use Rattle.spec_patch.proofs.Codec.{never, literal_codec}
 use Rattle.bytes_wire.specs.Read.{first_number}
 use Rattle.bytes_wire.proofs.ReadLaws.{number_at, number_bytes, first_of_little_endian}
 use Rattle.bytes_wire.specs.Prefix.{starts_with}
 use Rattle.bytes_wire.proofs.PrefixLaws.{starts_true, starts_append}
-
--- ---- an optional number is refused as malformed alone
-
-pub optional_malformed : (bs : List ℕ) (f : Fault) → read_optional bs ≡ refused f → f ≡ malformed
-unfolding read_optional optional_after
-optional_malformed [] f q = cc
-optional_malformed (t ∷ bs) f q = pick (eqb t 0) (eqb t 1) (leb 8 (length bs)) q
-  where
-    pick : (a b c : Bool) → (if a then read none bs else if b then onward (if c then read (number_of (take 8 bs)) (drop 8 bs) else refused malformed) (λ n rest. read (some n) rest) else refused malformed) ≡ refused f → f ≡ malformed
-    pick true b c e = never (sym e)
-    pick false true true e = never (sym e)
-    pick false true false e = cc
-    pick false false c e = cc
 
 -- ---- the heading
 

@@ -16,7 +16,7 @@ use Rattle.spec_patch.proofs.Codec.{many_codec}
 use Rattle.spec_patch.proofs.ReadLaws.{operation_codec, patch_codec}
 use Rattle.patch_sets.specs.Walk.{read_heading, read_head}
 use Rattle.patch_sets.specs.HeadLaws.{patches_by_heading, patch_by_head}
-use Rattle.projection_patch.specs.ReadAnswers.{anywhere}
+use Rattle.projection_patch.specs.ReadAnswers.{plain}
 use Rattle.projection_patch.specs.declared.patch.ProjectionPatch.{ProjectionPatch}
 use Rattle.projection_patch.specs.declared.read_values.ProjectionPatchReadFault.{ProjectionPatchReadFault}
 use Rattle.projection_patch.proofs.Answers.{Got, NotGot}
@@ -49,7 +49,7 @@ module _ (ed : Edition) (set : List ℕ) (short : length set ≤ set_bytes) wher
   set_read_by r e = rw (le-leb (length set) set_bytes short) (ap ended (patches_by_heading ed set ∙ e))
 
   -- behind its heading, its patches decide
-  pub set_by_patches : {count at : ℕ} → Got (read_heading ed) (anywhere (λ n. n)) set 0 count at → read_set ed set ≡ ended (many count (read_patch ed) (drop at set))
+  pub set_by_patches : {count at : ℕ} → Got (read_heading ed) plain set 0 count at → read_set ed set ≡ ended (many count (read_patch ed) (drop at set))
   set_by_patches {count} {at} g = set_read_by (many count (read_patch ed) (drop at set)) (rw (g.is, g.same))
 
   -- without its heading it is refused

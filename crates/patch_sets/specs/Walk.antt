@@ -1,5 +1,5 @@
 -- A walk over a set, as a client makes it: the heading, then each patch's head, then each of its operations.
-use Rattle.std.specs.Prelude.{ℕ, ◌+◌, List, ◌++◌, length}
+use Rattle.std.specs.Prelude.{ℕ, List, ◌++◌, length}
 use Rattle.spec_patch.specs.Sizes.{set_patches, patch_operations}
 use Rattle.spec_patch.specs.Patch.{Envelope, Patch}
 use Rattle.spec_patch.specs.Edition.{Edition}

@@ -3,58 +3,37 @@
 
 ghost use Rattle.std.specs.Prelude.{◌≡◌, length, drop};
 ghost use Rattle.spec_patch.specs.Edition.{letters};
-ghost use Rattle.spec_patch.specs.Read.{to_envelope, read_envelope};
+ghost use Rattle.spec_patch.specs.Read.{read_envelope};
 ghost use Rattle.bytes_wire.specs.Prefix.{starts_with};
-ghost use Rattle.projection_patch.specs.Meaning.{surface_to, envelope_to, edition_of};
+ghost use Rattle.projection_patch.specs.Meaning.{surface_to, edition_of};
 ghost use Rattle.patch_sets.specs.Walk.{read_head, read_heading};
-ghost use Rattle.projection_patch.specs.ReadAnswers.{optional_of, count_answer};
+ghost use Rattle.spec_lists.specs.Options.{optional_of};
+ghost use Rattle.projection_patch.specs.ReadAnswers.{count_answer};
 ghost use Rattle.patch_sets.specs.SetAnswers.{envelope_answer, head_answer};
 
 use projection_patch::contract_primitives::{Epoch, Revision, StaticDocumentId, StaticSurfaceId};
 use projection_patch::patch::{
-    OptionalSurfaceId, ProjectionPatch, ProjectionPatchEdition, ProjectionPatchEnvelope,
-    ProjectionPatchId, ProjectionPatchSequence, ProjectionPatchSet, ProjectionPatchStreamId,
+    ProjectionPatch, ProjectionPatchEdition, ProjectionPatchEnvelope, ProjectionPatchId,
+    ProjectionPatchSequence, ProjectionPatchSet, ProjectionPatchStreamId,
 };
-use projection_patch::read_values::{
-    CountRead, NumbersRead, OptionalNumber, OptionalRead, ProjectionPatchReadFault,
-};
-use projection_patch::{read_values, widths};
+use projection_patch::read_values;
+use projection_patch::read_values::ProjectionPatchReadFault;
 
-#[derive(Drop)]
-pub enum EnvelopeRead {
-    Read(ProjectionPatchEnvelope, usize),
-    Refused(ProjectionPatchReadFault),
-}
-
-// A patch's head, and how many bytes it took.
-#[derive(Drop)]
-pub enum PatchHeadRead {
-    Read(ProjectionPatch, usize),
-    Refused(ProjectionPatchReadFault),
-}
-
-fn surface_of(number: OptionalNumber) -> OptionalSurfaceId
+fn surface_of(number: Option<u64>) -> Option<StaticSurfaceId>
     ensures { result ≡ surface_to (optional_of number) }
 {
-    match number {
-        OptionalNumber::None => OptionalSurfaceId::None,
-        OptionalNumber::Some(surface) => OptionalSurfaceId::Some(StaticSurfaceId::new(surface)),
-    }
+    number.map(StaticSurfaceId::new)
 }
 
-fn envelope_of(
-    patch: u64,
-    stream: u64,
-    document: u64,
-    surface: OptionalNumber,
-    previous: u64,
-    revision: u64,
-    epoch: u64,
-    sequence: u64,
-) -> ProjectionPatchEnvelope
-    ensures { result ≡ envelope_to (to_envelope (patch, (stream, (document, (optional_of surface, (previous, (revision, (epoch, sequence)))))))) }
+fn envelope(part: &[u8]) -> Result<(ProjectionPatchEnvelope, usize), ProjectionPatchReadFault>
+    ensures { result ≡ envelope_answer (length part.now) (read_envelope part.now) }
 {
-    ProjectionPatchEnvelope {
+    let ((patch, stream), at) = read_values::numbers_at(part, 0)?;
+    let (document, at) = read_values::u64_at(part, at)?;
+    let (surface, at) = read_values::optional_at(part, at)?;
+    let ((previous, revision), at) = read_values::numbers_at(part, at)?;
+    let ((epoch, sequence), end) = read_values::numbers_at(part, at)?;
+    let envelope = ProjectionPatchEnvelope {
         patch_id: ProjectionPatchId::new(patch),
         stream_id: ProjectionPatchStreamId::new(stream),
         document_id: StaticDocumentId::new(document),
@@ -63,58 +42,23 @@ fn envelope_of(
         projection_revision: Revision::new(revision),
         epoch: Epoch::new(epoch),
         sequence: ProjectionPatchSequence::new(sequence),
-    }
+    };
+    Ok((envelope, end))
 }
 
-fn envelope(part: &[u8]) -> EnvelopeRead
-    ensures { result ≡ envelope_answer (length part.now) (read_envelope part.now) }
-{
-    let NumbersRead::Read(patch, stream) = read_values::numbers_at(part, 0) else {
-        return EnvelopeRead::Refused(ProjectionPatchReadFault::Malformed);
-    };
-    let Some(document) = bytes_wire::read_u64_at(part, widths::TWO_IDS) else {
-        return EnvelopeRead::Refused(ProjectionPatchReadFault::Malformed);
-    };
-    let OptionalRead::Read(surface, at) = read_values::optional_at(part, widths::THREE_IDS) else {
-        return EnvelopeRead::Refused(ProjectionPatchReadFault::Malformed);
-    };
-    let NumbersRead::Read(previous, revision) = read_values::numbers_at(part, at) else {
-        return EnvelopeRead::Refused(ProjectionPatchReadFault::Malformed);
-    };
-    let next = at + widths::TWO_IDS;
-    let NumbersRead::Read(epoch, sequence) = read_values::numbers_at(part, next) else {
-        return EnvelopeRead::Refused(ProjectionPatchReadFault::Malformed);
-    };
-    let end = next + widths::TWO_IDS;
-    EnvelopeRead::Read(
-        envelope_of(
-            patch, stream, document, surface, previous, revision, epoch, sequence,
-        ),
-        end,
-    )
-}
-
-// Reads a patch's head from the start of a part: the envelope and the operation count.
-pub fn read_patch_head(part: &[u8]) -> PatchHeadRead
+// Reads a patch's head from the start of a part: the envelope and the operation count. The answer is the head and how many bytes it took.
+pub fn read_patch_head(part: &[u8]) -> Result<(ProjectionPatch, usize), ProjectionPatchReadFault>
     ensures { result ≡ head_answer (length part.now) (read_head part.now) }
 {
-    match envelope(part) {
-        EnvelopeRead::Read(envelope, at) => match read_values::count_at(
-            part,
-            at,
-            ProjectionPatch::OPERATIONS,
-        ) {
-            CountRead::Read(count, end) => PatchHeadRead::Read(
-                ProjectionPatch {
-                    envelope,
-                    operation_count: count,
-                },
-                end,
-            ),
-            CountRead::Refused(fault) => PatchHeadRead::Refused(fault),
+    let (envelope, at) = envelope(part)?;
+    let (operation_count, end) = read_values::count_at(part, at, ProjectionPatch::OPERATIONS)?;
+    Ok((
+        ProjectionPatch {
+            envelope,
+            operation_count,
         },
-        EnvelopeRead::Refused(fault) => PatchHeadRead::Refused(fault),
-    }
+        end,
+    ))
 }
 
 fn has_letters(set: &[u8], edition: ProjectionPatchEdition) -> bool
@@ -135,18 +79,19 @@ fn has_letters(set: &[u8], edition: ProjectionPatchEdition) -> bool
 }
 
 // Reads the heading of a set: the patch count, and the position of the first patch.
-pub fn read_heading(set: &[u8], edition: ProjectionPatchEdition) -> CountRead
+pub fn read_heading(
+    set: &[u8],
+    edition: ProjectionPatchEdition,
+) -> Result<(usize, usize), ProjectionPatchReadFault>
     ensures { result ≡ count_answer (length set.now) (read_heading (edition_of edition) set.now) }
 {
-    let Some(letters) = bytes_wire::read_u32_at(set, 0) else {
-        return CountRead::Refused(ProjectionPatchReadFault::Malformed);
-    };
+    let letters = bytes_wire::read_u32_at(set, 0).ok_or(ProjectionPatchReadFault::Malformed)?;
     if letters != 27 {
-        return CountRead::Refused(ProjectionPatchReadFault::Malformed);
+        return Err(ProjectionPatchReadFault::Malformed);
     }
     if has_letters(set, edition) {
         read_values::count_at(set, 31, ProjectionPatchSet::PATCHES)
     } else {
-        CountRead::Refused(ProjectionPatchReadFault::Malformed)
+        Err(ProjectionPatchReadFault::Malformed)
     }
 }

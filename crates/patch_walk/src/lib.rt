@@ -7,13 +7,11 @@ ghost use Rattle.projection_patch.specs.Meaning.{edition_of};
 ghost use Rattle.patch_walk.specs.Steps.{open_answer, operation_step, head_step, step_answer, StepWithin};
 ghost use Rattle.patch_walk.specs.SetReads.{set_answer, end_answer, left_at};
 
-use patch_sets::PatchHeadRead;
 use projection_patch::patch::{
     ProjectionPatch, ProjectionPatchEdition, ProjectionPatchOperation, ProjectionPatchSet,
 };
 use projection_patch::read_operations;
-use projection_patch::read_operations::OperationRead;
-use projection_patch::read_values::{CountRead, ProjectionPatchReadFault};
+use projection_patch::read_values::ProjectionPatchReadFault;
 
 // Where a walk stands. The patch that was opened last has index patch_count - patches_left - 1, and the operation that comes next has
 // index operation_count - operations_left in it.
@@ -59,7 +57,7 @@ pub fn open_set(set: &[u8], edition: ProjectionPatchEdition) -> SetOpening
         return SetOpening::Refused(ProjectionPatchReadFault::OverCapacity);
     }
     match patch_sets::read_heading(set, edition) {
-        CountRead::Read(count, at) => SetOpening::At(SetCursor {
+        Ok((count, at)) => SetOpening::At(SetCursor {
             at,
             patch_count: count,
             patches_left: count,
@@ -67,7 +65,7 @@ pub fn open_set(set: &[u8], edition: ProjectionPatchEdition) -> SetOpening
             operation_count: 0,
             operations_left: 0,
         }),
-        CountRead::Refused(fault) => SetOpening::Refused(fault),
+        Err(fault) => SetOpening::Refused(fault),
     }
 }
 
@@ -87,7 +85,7 @@ fn operation_step(
         return SetStep::Refused(ProjectionPatchReadFault::Malformed);
     }
     match read_operations::operation_from(&set[at..], strict, edition) {
-        OperationRead::Read(operation, taken) => SetStep::Operation(
+        Ok((operation, taken)) => SetStep::Operation(
             operation,
             SetCursor {
                 at: at + taken,
@@ -98,7 +96,7 @@ fn operation_step(
                 operations_left: cursor.operations_left - 1,
             },
         ),
-        OperationRead::Refused(fault) => SetStep::Refused(fault),
+        Err(fault) => SetStep::Refused(fault),
     }
 }
 
@@ -113,7 +111,7 @@ fn head_step(set: &[u8], cursor: SetCursor) -> SetStep
         return SetStep::Refused(ProjectionPatchReadFault::Malformed);
     }
     match patch_sets::read_patch_head(&set[at..]) {
-        PatchHeadRead::Read(head, taken) => {
+        Ok((head, taken)) => {
             let envelope = head.envelope;
             SetStep::Head(
                 head,
@@ -127,7 +125,7 @@ fn head_step(set: &[u8], cursor: SetCursor) -> SetStep
                 },
             )
         }
-        PatchHeadRead::Refused(fault) => SetStep::Refused(fault),
+        Err(fault) => SetStep::Refused(fault),
     }
 }
 

@@ -1,5 +1,4 @@
 // The list that a set of an edition stands for, whose texts stay in the set.
-use patch_sets::PatchHeadRead;
 use projection_patch::contract_primitives::{Epoch, Revision, StaticDocumentId, StaticNodeId};
 use projection_patch::patch::{
     OperationPlace, ProjectionNodeAvailability, ProjectionPatch, ProjectionPatchEdition,
@@ -149,7 +148,7 @@ fn with_patch(
         return next;
     }
     match patch_sets::read_patch_head(&set[at..]) {
-        PatchHeadRead::Read(head, taken) => {
+        Ok((head, taken)) => {
             let mut list = next.list;
             let mut patches = list.patches;
             patches[index] = head;
@@ -158,7 +157,7 @@ fn with_patch(
             next.at = num::wrapping_add_usize(at, taken);
             with_operations(next, set, head.operation_count, edition)
         }
-        PatchHeadRead::Refused(_) => next,
+        Err(_) => next,
     }
 }
 

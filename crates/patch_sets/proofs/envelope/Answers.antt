@@ -1,101 +1,117 @@
--- `patch_sets::envelope` meets its contract: seven numbers and a surface, in order.
--- ---- where the reading began, and what was read before
-use Prim.Native.Nat.{ℕ, ◌+◌}
-use mathlib.Core.Path.{sym, ap, ◌∙◌}
-use mathlib.Core.List.{List}
-use mathlib.Core.Option.{Option}
-use native.Mathlib.Omega.{arith}
-use lib.ListN.{length, drop}
-use Rattle.spec_lists.specs.Bytes.{Bytes}
+-- `patch_sets::envelope` meets its contract: two ids, a document, a surface, two revisions, an epoch and a sequence.
+use Prim.Native.Nat.{ℕ}
+use mathlib.Core.Path.{◌≡◌, ap, ◌∙◌}
+use Rattle.std.proofs.lemmas.Result.{err_from_is_err_and}
 use Rattle.spec_lists.proofs.BytesLaws.{bytes_of}
-use Rattle.spec_patch.specs.Reader.{Reader, pair}
-use Rattle.spec_patch.specs.Read.{read_u64, read_optional, to_envelope, read_envelope}
-use Rattle.projection_patch.specs.Widths.{two_ids, three_ids}
-use Rattle.projection_patch.specs.Meaning.{envelope_to}
-use Rattle.projection_patch.specs.ReadAnswers.{anywhere, optional_to}
-use Rattle.patch_sets.specs.SetAnswers.{envelope_answer}
-use Rattle.projection_patch.proofs.At.{position, NumberAt, u64_at, u64_short, NumbersAt, numbers_at, numbers_missing, last_numbers_missing, mapped_refused}
-use Rattle.projection_patch.proofs.Answers.{Got, optional_got, no_optional}
+use Rattle.spec_lists.specs.Options.{optional_to}
+use Rattle.spec_patch.specs.Reader.{pair}
+use Rattle.spec_patch.specs.Read.{read_u64, read_optional, read_envelope}
+use Rattle.spec_patch.proofs.Codec.{pair_codec}
+use Rattle.spec_patch.proofs.ReadLaws.{u64_codec, optional_codec}
+use Rattle.projection_patch.specs.Meaning.{surface_to}
+use Rattle.projection_patch.specs.ReadAnswers.{anywhere, plain}
+use Rattle.projection_patch.specs.declared.contract_primitives.StaticDocumentId.{StaticDocumentId}
+use Rattle.projection_patch.specs.declared.contract_primitives.Revision.{Revision}
+use Rattle.projection_patch.specs.declared.contract_primitives.Epoch.{Epoch}
+use Rattle.projection_patch.specs.declared.patch.ProjectionPatchId.{ProjectionPatchId}
+use Rattle.projection_patch.specs.declared.patch.ProjectionPatchStreamId.{ProjectionPatchStreamId}
+use Rattle.projection_patch.specs.declared.patch.ProjectionPatchSequence.{ProjectionPatchSequence}
+use Rattle.projection_patch.proofs.Answers.{got, not_got, plain_got, numbers_got, numbers_refused}
 use Rattle.projection_patch.proofs.Places.{optional_is}
-use Rattle.patch_sets.proofs.Heads.{optional_malformed}
-use borrow.Author.Rules.{rules}
 use Rattle.patch_sets.proofs.envelope.Goals as goal
-use Rattle.patch_sets.proofs.envelope.Goals.{After-shared_slice_known-1, In-Read, In-Read-numbers_at, In-Read-numbers_at-2, In-Read-optional_at, In-Some}
 
-abbrev part : After-shared_slice_known-1 → List ℕ
-part c = c.args.part.now
+patch_is : (r : ProjectionPatchId) (n : ℕ) → r.0 ≡ n → r ≡ record { 0 = n }
+patch_is r n e = ap (λ (k : ℕ). record { 0 = k }) e
 
-abbrev at : In-Read-optional_at → ℕ
-at c = c.in-Read-optional_at.at
+stream_is : (r : ProjectionPatchStreamId) (n : ℕ) → r.0 ≡ n → r ≡ record { 0 = n }
+stream_is r n e = ap (λ (k : ℕ). record { 0 = k }) e
 
-patch : (c : In-Read) → NumbersAt ((c.args.part.now)) 0 c.in-Read.patch c.in-Read.stream
-patch c =
-    numbers_at ((c.args.part.now)) 0 c.numbers_at.result c.numbers_at.ensures c.in-Read.patch c.in-Read.stream c.in-Read.is
+document_is : (r : StaticDocumentId) (n : ℕ) → r.0 ≡ n → r ≡ record { 0 = n }
+document_is r n e = ap (λ (k : ℕ). record { 0 = k }) e
 
-document : (c : In-Some) → NumberAt ((c.args.part.now)) two_ids 8 c.in-Some.document
-document c =
-    u64_at ((c.args.part.now)) two_ids c.in-Some.document c.read_u64_at.result c.read_u64_at.ensures c.in-Some.is
+revision_is : (r : Revision) (n : ℕ) → r.0 ≡ n → r ≡ record { 0 = n }
+revision_is r n e = ap (λ (k : ℕ). record { 0 = k }) e
 
-surface : (c : In-Read-optional_at) → Got read_optional (anywhere optional_to) ((c.args.part.now)) three_ids c.in-Read-optional_at.surface (at c)
-surface c =
-    optional_got ((c.args.part.now)) three_ids c.optional_at.result c.optional_at.ensures ((let it : (Bytes ((c.args.part.now))) = bytes_of ((c.args.part.now)) (λ j. (c.type_inv.part j).fits) in it)) c.in-Read-optional_at.surface (at c) c.in-Read-optional_at.is
+epoch_is : (r : Epoch) (n : ℕ) → r.0 ≡ n → r ≡ record { 0 = n }
+epoch_is r n e = ap (λ (k : ℕ). record { 0 = k }) e
 
-previous : (c : In-Read-numbers_at) → NumbersAt ((c.args.part.now)) ((c.in-Read-optional_at.at)) c.in-Read-numbers_at.previous c.in-Read-numbers_at.revision
-previous c =
-    numbers_at ((c.args.part.now)) ((c.in-Read-optional_at.at)) c.numbers_at-2.result c.numbers_at-2.ensures c.in-Read-numbers_at.previous c.in-Read-numbers_at.revision c.in-Read-numbers_at.is
+sequence_is : (r : ProjectionPatchSequence) (n : ℕ) → r.0 ≡ n → r ≡ record { 0 = n }
+sequence_is r n e = ap (λ (k : ℕ). record { 0 = k }) e
 
-epoch : (c : In-Read-numbers_at-2) → NumbersAt ((c.args.part.now)) ((c.in-Read-optional_at.at) + two_ids) c.in-Read-numbers_at-2.epoch c.in-Read-numbers_at-2.sequence
-epoch c =
-    numbers_at ((c.args.part.now)) ((c.in-Read-optional_at.at) + two_ids) c.numbers_at-3.result c.numbers_at-3.ensures c.in-Read-numbers_at-2.epoch c.in-Read-numbers_at-2.sequence c.in-Read-numbers_at-2.is
-
--- what follows the first two numbers
-abbrev rest : Reader (ℕ × (Option ℕ × (ℕ × (ℕ × (ℕ × ℕ)))))
-rest = pair read_u64 (pair read_optional (pair read_u64 (pair read_u64 (pair read_u64 read_u64))))
-
-pub returns-in_default : goal.returns-in_default
+pub returns-in_err-patch : goal.returns-in_err-patch
 unfolding read_envelope
-returns-in_default c =
-    let l = part (goal.at.returns-in_default c).After-shared_slice_known-1 in
-    ap (envelope_answer (length l)) (sym (mapped_refused to_envelope (pair read_u64 (pair read_u64 rest) l) (numbers_missing l 0 c.numbers_at.result c.numbers_at.ensures rest c.in_default.is)))
+returns-in_err-patch c =
+    let g = numbers_refused c.args.part.now 0 c.numbers_at.result c.numbers_at.ensures c.in_err-patch.field-0.0 c.in_err-patch.was (pair read_u64 (pair read_optional (pair read_u64 (pair read_u64 (pair read_u64 read_u64))))) in
+    let q = err_from_is_err_and c.from_residual.result c.from_residual.ensures.1 in
+    rw (q.1, q.2, ← g.same, g.is)
 
-pub returns-in_default-read_u64_at : goal.returns-in_default-read_u64_at
+pub returns-in_err-document : goal.returns-in_err-document
 unfolding read_envelope
-returns-in_default-read_u64_at c =
-    let one = patch (goal.at.returns-in_default-read_u64_at c).In-Read in
-    rw (one.first, one.second, u64_short (part (goal.at.returns-in_default-read_u64_at c).After-shared_slice_known-1) two_ids c.read_u64_at.result c.read_u64_at.ensures c.in_default-read_u64_at.is)
+returns-in_err-document c =
+    let all = bytes_of c.args.part.now (λ j. (c.type_inv.part j).fits) in
+    let p = numbers_got c.args.part.now 0 c.numbers_at.result c.numbers_at.ensures all c.in_ok-patch.patch c.in_ok-patch.stream c.in_ok-patch.at c.in_ok-patch.was in
+    let g = not_got plain u64_codec c.args.part.now c.in_ok-patch.at c.u64_at.result c.u64_at.ensures c.in_err-document.field-0.0 c.in_err-document.was in
+    let q = err_from_is_err_and c.from_residual-in_err-document.result c.from_residual-in_err-document.ensures.1 in
+    rw (q.1, q.2, ← g.same, p.first, p.second, g.is)
 
-pub returns-in_default-optional_at : goal.returns-in_default-optional_at
+pub returns-in_err-surface : goal.returns-in_err-surface
 unfolding read_envelope
-returns-in_default-optional_at c =
-    let one = patch (goal.at.returns-in_default-optional_at c).In-Read in
-    let l = part (goal.at.returns-in_default-optional_at c).After-shared_slice_known-1 in
-    let g = no_optional l three_ids c.optional_at.result c.optional_at.ensures c.in_default-optional_at.field-0 c.in_default-optional_at.is in
-    rw (one.first, one.second, (document (goal.at.returns-in_default-optional_at c).In-Some).is, g.is, optional_malformed (drop three_ids l) g.fault g.is)
+returns-in_err-surface c =
+    let all = bytes_of c.args.part.now (λ j. (c.type_inv.part j).fits) in
+    let p = numbers_got c.args.part.now 0 c.numbers_at.result c.numbers_at.ensures all c.in_ok-patch.patch c.in_ok-patch.stream c.in_ok-patch.at c.in_ok-patch.was in
+    let d = plain_got u64_codec c.args.part.now c.in_ok-patch.at c.u64_at.result c.u64_at.ensures all c.in_ok-document.document c.in_ok-document.at c.in_ok-document.was in
+    let g = not_got (anywhere optional_to) optional_codec c.args.part.now c.in_ok-document.at c.optional_at.result c.optional_at.ensures c.in_err-surface.field-0.0 c.in_err-surface.was in
+    let q = err_from_is_err_and c.from_residual-in_err-surface.result c.from_residual-in_err-surface.ensures.1 in
+    rw (q.1, q.2, ← g.same, p.first, p.second, d.is, g.is)
 
-pub returns-in_default-numbers_at : goal.returns-in_default-numbers_at
+pub returns-in_err-previous : goal.returns-in_err-previous
 unfolding read_envelope
-returns-in_default-numbers_at c =
-    let one = patch (goal.at.returns-in_default-numbers_at c).In-Read in
-    rw (one.first, one.second, (document (goal.at.returns-in_default-numbers_at c).In-Some).is, (surface (goal.at.returns-in_default-numbers_at c).In-Read-optional_at).is, numbers_missing (part (goal.at.returns-in_default-numbers_at c).After-shared_slice_known-1) (at (goal.at.returns-in_default-numbers_at c).In-Read-optional_at) c.numbers_at-2.result c.numbers_at-2.ensures (pair read_u64 read_u64) c.in_default-numbers_at.is)
+returns-in_err-previous c =
+    let all = bytes_of c.args.part.now (λ j. (c.type_inv.part j).fits) in
+    let p = numbers_got c.args.part.now 0 c.numbers_at.result c.numbers_at.ensures all c.in_ok-patch.patch c.in_ok-patch.stream c.in_ok-patch.at c.in_ok-patch.was in
+    let d = plain_got u64_codec c.args.part.now c.in_ok-patch.at c.u64_at.result c.u64_at.ensures all c.in_ok-document.document c.in_ok-document.at c.in_ok-document.was in
+    let s = got (anywhere optional_to) optional_codec c.args.part.now c.in_ok-document.at c.optional_at.result c.optional_at.ensures all c.in_ok-surface.surface c.in_ok-surface.at c.in_ok-surface.was in
+    let g = numbers_refused c.args.part.now c.in_ok-surface.at c.numbers_at-2.result c.numbers_at-2.ensures c.in_err-previous.field-0.0 c.in_err-previous.was (pair read_u64 read_u64) in
+    let q = err_from_is_err_and c.from_residual-in_err-previous.result c.from_residual-in_err-previous.ensures.1 in
+    rw (q.1, q.2, ← g.same, p.first, p.second, d.is, s.is, g.is)
 
-pub overflow_add-next : goal.overflow_add-next
-overflow_add-next c = omega (arith, (previous c).room)
-
-pub returns-in_default-numbers_at-2 : goal.returns-in_default-numbers_at-2
+pub returns-in_err-epoch : goal.returns-in_err-epoch
 unfolding read_envelope
-returns-in_default-numbers_at-2 c =
-    let one = patch (goal.at.returns-in_default-numbers_at-2 c).In-Read in
-    rw (one.first, one.second, (document (goal.at.returns-in_default-numbers_at-2 c).In-Some).is, (surface (goal.at.returns-in_default-numbers_at-2 c).In-Read-optional_at).is, (previous (goal.at.returns-in_default-numbers_at-2 c).In-Read-numbers_at).first, (previous (goal.at.returns-in_default-numbers_at-2 c).In-Read-numbers_at).second, last_numbers_missing (part (goal.at.returns-in_default-numbers_at-2 c).After-shared_slice_known-1) (at (goal.at.returns-in_default-numbers_at-2 c).In-Read-optional_at + two_ids) c.numbers_at-3.result c.numbers_at-3.ensures c.in_default-numbers_at-2.is)
-
-pub overflow_add-end : goal.overflow_add-end
-overflow_add-end c = omega (arith, (epoch c).room)
+returns-in_err-epoch c =
+    let all = bytes_of c.args.part.now (λ j. (c.type_inv.part j).fits) in
+    let p = numbers_got c.args.part.now 0 c.numbers_at.result c.numbers_at.ensures all c.in_ok-patch.patch c.in_ok-patch.stream c.in_ok-patch.at c.in_ok-patch.was in
+    let d = plain_got u64_codec c.args.part.now c.in_ok-patch.at c.u64_at.result c.u64_at.ensures all c.in_ok-document.document c.in_ok-document.at c.in_ok-document.was in
+    let s = got (anywhere optional_to) optional_codec c.args.part.now c.in_ok-document.at c.optional_at.result c.optional_at.ensures all c.in_ok-surface.surface c.in_ok-surface.at c.in_ok-surface.was in
+    let v = numbers_got c.args.part.now c.in_ok-surface.at c.numbers_at-2.result c.numbers_at-2.ensures all c.in_ok-previous.previous c.in_ok-previous.revision c.in_ok-previous.at c.in_ok-previous.was in
+    let g = not_got plain (pair_codec u64_codec u64_codec) c.args.part.now c.in_ok-previous.at c.numbers_at-3.result c.numbers_at-3.ensures c.in_err-epoch.field-0.0 c.in_err-epoch.was in
+    let q = err_from_is_err_and c.from_residual-in_err-epoch.result c.from_residual-in_err-epoch.ensures.1 in
+    rw (q.1, q.2, ← g.same, p.first, p.second, d.is, s.is, v.first, v.second, g.is)
 
 pub returns : goal.returns
 unfolding read_envelope
 returns c =
-    let one = patch (goal.at.returns c).In-Read in
-    let s = surface (goal.at.returns c).In-Read-optional_at in
-    let made = c.envelope_of.ensures
-    ∙ ap (λ (o : Option ℕ). envelope_to (to_envelope (c.in-Read.patch, (c.in-Read.stream, (c.in-Some.document, (o, (c.in-Read-numbers_at.previous, (c.in-Read-numbers_at.revision, (c.in-Read-numbers_at-2.epoch, c.in-Read-numbers_at-2.sequence)))))))))
-    (optional_is c.in-Read-optional_at.surface s.a s.same) in
-    rw (one.first, one.second, (document (goal.at.returns c).In-Some).is, s.is, (previous (goal.at.returns c).In-Read-numbers_at).first, (previous (goal.at.returns c).In-Read-numbers_at).second, (epoch (goal.at.returns c).In-Read-numbers_at-2).first, (epoch (goal.at.returns c).In-Read-numbers_at-2).second, position (part (goal.at.returns c).After-shared_slice_known-1) (at (goal.at.returns c).In-Read-optional_at + two_ids + two_ids) (epoch (goal.at.returns c).In-Read-numbers_at-2).room, made)
+    let all = bytes_of c.args.part.now (λ j. (c.type_inv.part j).fits) in
+    let p = numbers_got c.args.part.now 0 c.numbers_at.result c.numbers_at.ensures all c.in_ok-patch.patch c.in_ok-patch.stream c.in_ok-patch.at c.in_ok-patch.was in
+    let d = plain_got u64_codec c.args.part.now c.in_ok-patch.at c.u64_at.result c.u64_at.ensures all c.in_ok-document.document c.in_ok-document.at c.in_ok-document.was in
+    let s = got (anywhere optional_to) optional_codec c.args.part.now c.in_ok-document.at c.optional_at.result c.optional_at.ensures all c.in_ok-surface.surface c.in_ok-surface.at c.in_ok-surface.was in
+    let v = numbers_got c.args.part.now c.in_ok-surface.at c.numbers_at-2.result c.numbers_at-2.ensures all c.in_ok-previous.previous c.in_ok-previous.revision c.in_ok-previous.at c.in_ok-previous.was in
+    let e = numbers_got c.args.part.now c.in_ok-previous.at c.numbers_at-3.result c.numbers_at-3.ensures all c.in_ok-epoch.epoch c.in_ok-epoch.sequence c.in_ok-epoch.end c.in_ok-epoch.was in
+    rw (
+      p.first,
+      p.second,
+      d.is,
+      s.is,
+      v.first,
+      v.second,
+      e.first,
+      e.second,
+      e.there,
+      patch_is c.new.result c.in_ok-patch.patch c.new.ensures,
+      stream_is c.new-2.result c.in_ok-patch.stream c.new-2.ensures,
+      document_is c.new-3.result c.in_ok-document.document c.new-3.ensures,
+      c.surface_of.ensures ∙ ap surface_to (optional_is c.in_ok-surface.surface s.a s.same),
+      revision_is c.new-4.result c.in_ok-previous.previous c.new-4.ensures,
+      revision_is c.new-5.result c.in_ok-previous.revision c.new-5.ensures,
+      epoch_is c.new-6.result c.in_ok-epoch.epoch c.new-6.ensures,
+      sequence_is c.new-7.result c.in_ok-epoch.sequence c.new-7.ensures,
+    )

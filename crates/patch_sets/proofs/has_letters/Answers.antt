@@ -1,13 +1,10 @@
 -- `patch_sets::has_letters` meets its contract: each byte string is that of its edition.
-use Prim.Native.Nat.{ℕ}
 use mathlib.Core.Path.{sym, ap, ◌∙◌}
-use mathlib.Core.List.{List}
 use lib.ListN.{drop}
 use Rattle.spec_patch.specs.Edition.{edition_digit, letters}
 use Rattle.bytes_wire.specs.Prefix.{starts_with}
 use Rattle.projection_patch.specs.Meaning.{edition_of}
 use Rattle.projection_patch.specs.declared.patch.ProjectionPatchEdition.{ProjectionPatchEdition}
-use borrow.Author.Rules.{rules}
 use Rattle.patch_sets.proofs.has_letters.Goals as goal
 
 pub returns-in-V1 : goal.returns-in-V1
