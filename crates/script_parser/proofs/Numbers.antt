@@ -5,10 +5,9 @@ use mathlib.Core.List.{List, [], ◌∷◌, ◌++◌, append_assoc, append-nil}
 use native.Mathlib.Omega.{arith}
 use lib.ListN.{length, set, replicate, length-append}
 use lib.Seq.{set_at}
+use Rattle.std.specs.Prelude.{Option, Some, None}
 use Rattle.spec_replay.specs.Script.{other, Arguments, number_field}
 use Rattle.script_parser.specs.Fields.{fields_after, numbers, most_numbers, filled, number_then, NumberAfter}
-use Rattle.script_parser.specs.declared.fields.NumberField.{NumberField}
-use Rattle.script_parser.specs.declared.fields.NumberField.TheVariants.{Number, Other}
 
 -- the first i of count numbers are read, and the last of their fields ends at an index
 pub record Reading (separator : ℕ) (line : List ℕ) (from count i : ℕ) (values : List ℕ) (at : ℕ) : Type 0 where
@@ -31,7 +30,7 @@ module _ {separator : ℕ} {line : List ℕ} {from count i : ℕ} {values : List
       let left : count - i ≡ suc (count - (i + 1)) = omega arith in
       r.same next ∙ ap (λ (k : ℕ). numbers k (λ ns. next (r.so_far ++ ns)) (fields_after separator line at)) left
 
-  pub reading_turn : i < count → count ≤ most_numbers → (f : NumberField) (n to : ℕ) → NumberAfter separator line at f → f ≡ Number n to → Reading separator line from count (i + 1) (set values i n) to
+  pub reading_turn : i < count → count ≤ most_numbers → (f : Option (ℕ × ℕ)) (n to : ℕ) → NumberAfter separator line at f → f ≡ Some (n , to) → Reading separator line from count (i + 1) (set values i n) to
   reading_turn h few f n to told is =
       let left : most_numbers - i ≡ suc (most_numbers - (i + 1)) = omega arith in
       record {
@@ -45,12 +44,12 @@ module _ {separator : ℕ} {line : List ℕ} {from count i : ℕ} {values : List
         same = λ next.
             on h next
             ∙ told (λ m. numbers (count - (i + 1)) (λ ns. next (r.so_far ++ (m ∷ ns))))
-            ∙ ap (λ (g : NumberField). number_then separator line g (λ m. numbers (count - (i + 1)) (λ ns. next (r.so_far ++ (m ∷ ns))))) is
+            ∙ ap (λ (g : Option (ℕ × ℕ)). number_then separator line g (λ m. numbers (count - (i + 1)) (λ ns. next (r.so_far ++ (m ∷ ns))))) is
             ∙ (λ j. numbers (count - (i + 1)) (λ ns. next (sym (append_assoc r.so_far (n ∷ []) ns) j)) (fields_after separator line to));
       }
 
-  pub reading_off : i < count → (f : NumberField) → NumberAfter separator line at f → f ≡ Other → (next : List ℕ → Arguments) → numbers count next (fields_after separator line from) ≡ other
-  reading_off h f told is next = on h next ∙ told _ ∙ ap (λ (g : NumberField). number_then separator line g (λ m. numbers (count - (i + 1)) (λ ns. next (r.so_far ++ (m ∷ ns))))) is
+  pub reading_off : i < count → (f : Option (ℕ × ℕ)) → NumberAfter separator line at f → f ≡ None → (next : List ℕ → Arguments) → numbers count next (fields_after separator line from) ≡ other
+  reading_off h f told is next = on h next ∙ told _ ∙ ap (λ (g : Option (ℕ × ℕ)). number_then separator line g (λ m. numbers (count - (i + 1)) (λ ns. next (r.so_far ++ (m ∷ ns))))) is
 
   pub reading_end : count ≤ i → (next : List ℕ → Arguments) → numbers count (λ ns. next (filled count ns)) (fields_after separator line from) ≡ next values (fields_after separator line at)
   reading_end h next =

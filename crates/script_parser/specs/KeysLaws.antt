@@ -1,6 +1,6 @@
 -- The keys of a page, read field by field.
 use Prim.Native.Nat.{ℕ, suc, ◌+◌, ◌-◌, ◌≤◌, ◌<◌}
-use Rattle.std.specs.Prelude.{◌≡◌, refl, Bool, false, List, [], ◌∷◌, ◌++◌, length, take, set, if◌then◌else◌}
+use Rattle.std.specs.Prelude.{◌≡◌, refl, List, [], ◌∷◌, ◌++◌, length, take, set, Option, Some, None}
 use Rattle.std.proofs.Math.Path.{sym, ap}
 use Rattle.std.proofs.Common.{◌∙◌, append_assoc, append-nil, add-one, length-set, take-suc-set}
 use native.Mathlib.Omega.{arith}
@@ -12,8 +12,6 @@ use Rattle.script_parser.specs.Forms.{number_in, up_to}
 use Rattle.script_parser.specs.FormsLaws.{number_first}
 use Rattle.script_parser.specs.Keys.{page_then}
 use Rattle.script_parser.specs.declared.keys.PageFields.{PageFields}
-use Rattle.script_parser.specs.declared.fields.NumberField.{NumberField}
-use Rattle.script_parser.specs.declared.fields.NumberField.TheVariants.{Number, Other}
 
 -- ---- before the keys
 
@@ -56,7 +54,7 @@ module _ {line : List ℕ} {end : ℕ} {keys : List ℕ} {count from : ℕ} (k :
         ∙ ap (λ (n : ℕ). up_to_end n (λ ks. next (take count keys ++ ks)) (fields_after space line from)) no_more
         ∙ ap (up_to_end 0 (λ ks. next (take count keys ++ ks))) (one_after space line from inside)
 
-    module _ (room : count < line_keys) (r : NumberField) (told : NumberAfter space line from r) where
+    module _ (room : count < line_keys) (r : Option (ℕ × ℕ)) (told : NumberAfter space line from r) where
       -- the field is read, and the rest behind it
       onward : (next : List ℕ → Command) → up_to_end line_keys next (fields_after space line end)
           ≡ number_then space line r (λ n. up_to_end (line_keys - (count + 1)) (λ ks. next (take count keys ++ (n ∷ ks))))
@@ -70,10 +68,10 @@ module _ {line : List ℕ} {end : ℕ} {keys : List ℕ} {count from : ℕ} (k :
           ∙ sym (ap (number_field goes) (one_after space line from inside))
           ∙ told goes
 
-      pub keyed_off : r ≡ Other → (next : List ℕ → Command) → up_to_end line_keys next (fields_after space line end) ≡ other
-      keyed_off is next = onward next ∙ ap (λ (x : NumberField). number_then space line x (λ n. up_to_end (line_keys - (count + 1)) (λ ks. next (take count keys ++ (n ∷ ks))))) is
+      pub keyed_off : r ≡ None → (next : List ℕ → Command) → up_to_end line_keys next (fields_after space line end) ≡ other
+      keyed_off is next = onward next ∙ ap (λ (x : Option (ℕ × ℕ)). number_then space line x (λ n. up_to_end (line_keys - (count + 1)) (λ ks. next (take count keys ++ (n ∷ ks))))) is
 
-      pub keyed_turn : (n to : ℕ) → r ≡ Number n to → KeyedLine line end (set keys count n) (count + 1) to
+      pub keyed_turn : (n to : ℕ) → r ≡ Some (n , to) → KeyedLine line end (set keys count n) (count + 1) to
       keyed_turn n to is =
           let kept : take (count + 1) (set keys count n) ≡ take count keys ++ (n ∷ []) =
           ap (λ (m : ℕ). take m (set keys count n)) (add-one count) ∙ take-suc-set keys count n (omega (arith, k.places)) in
@@ -82,7 +80,7 @@ module _ {line : List ℕ} {end : ℕ} {keys : List ℕ} {count from : ℕ} (k :
             few = omega arith;
             same = λ next.
                 onward next
-                ∙ ap (λ (x : NumberField). number_then space line x (λ m. up_to_end (line_keys - (count + 1)) (λ ks. next (take count keys ++ (m ∷ ks))))) is
+                ∙ ap (λ (x : Option (ℕ × ℕ)). number_then space line x (λ m. up_to_end (line_keys - (count + 1)) (λ ks. next (take count keys ++ (m ∷ ks))))) is
                 ∙ (λ i. up_to_end (line_keys - (count + 1)) (λ ks. next (moved kept ks i)) (fields_after space line to));
           }
         where
@@ -91,5 +89,5 @@ module _ {line : List ℕ} {end : ℕ} {keys : List ℕ} {count from : ℕ} (k :
 
 -- ---- a line that is no page
 
-pub no_page_then : (r : PageFields) → r.read ≡ false → page_then r ≡ other
-no_page_then r e = ap (λ (t : Bool). if t then page r.collection r.room (take r.count r.keys) else other) e
+pub no_page_then : (r : Option PageFields) → r ≡ None → page_then r ≡ other
+no_page_then r e = ap page_then e

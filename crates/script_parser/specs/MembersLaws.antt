@@ -1,6 +1,6 @@
 -- The batches of a group, read field by field.
 use Prim.Native.Nat.{ℕ, suc, ◌+◌, ◌-◌, ◌≤◌, ◌<◌}
-use Rattle.std.specs.Prelude.{◌≡◌, refl, Bool, false, length, get_or, take, set, if◌then◌else◌}
+use Rattle.std.specs.Prelude.{◌≡◌, refl, length, get_or, take, set, Option, Some, None}
 use Rattle.std.proofs.Math.Path.{sym, ap}
 use Rattle.std.proofs.Common.{◌∙◌, add-one, length-set, drop-cons, take-suc-set, length-take-le}
 use mathlib.Core.List.{List, [], ◌∷◌, ◌++◌, map, append_assoc, append-nil, map-append}
@@ -19,8 +19,6 @@ use Rattle.script_parser.specs.Meaning.{member_of, first_members, set_from}
 use Rattle.script_parser.specs.Members.{member_then, member_made, group_then}
 use Rattle.script_parser.specs.declared.GroupMember.{GroupMember}
 use Rattle.script_parser.specs.declared.members.GroupFields.{GroupFields}
-use Rattle.script_parser.specs.declared.members.MemberField.{MemberField}
-use Rattle.script_parser.specs.declared.members.MemberField.TheVariants as MemberAnswer
 
 -- ---- one batch
 
@@ -111,7 +109,7 @@ module _ {line : List ℕ} {end : ℕ} {members : List GroupMember} {count at : 
           let no_more : line_members - count ≡ 0 = omega arith in
           g.same ∙ ap (λ (n : ℕ). before_last n member_field last (fields_after space line at)) no_more ∙ ap (before_last 0 member_field last) both
 
-      module _ (room : count < line_members) (r : MemberField) (told : (next : GroupBatch → Command) → member_parts next (fields_after comma (take (to - at) (drop at line)) 0) ≡ member_then r next) where
+      module _ (room : count < line_members) (r : Option GroupMember) (told : (next : GroupBatch → Command) → member_parts next (fields_after comma (take (to - at) (drop at line)) 0) ≡ member_then r next) where
         -- the field is read, and the rest behind it
         onward : group_arguments (fields_after space line end) ≡ member_then r (λ a. before_last (line_members - (count + 1)) member_field (λ bs f. last (a ∷ bs) f) (second ∷ others))
         unfolding before_last
@@ -123,10 +121,10 @@ module _ {line : List ℕ} {end : ℕ} {members : List GroupMember} {count at : 
             ∙ part_member line at to e inside _
             ∙ told _
 
-        pub gathered_off : r ≡ MemberAnswer.Other → group_arguments (fields_after space line end) ≡ other
-        gathered_off is = onward ∙ ap (λ (x : MemberField). member_then x (λ a. before_last (line_members - (count + 1)) member_field (λ bs f. last (a ∷ bs) f) (second ∷ others))) is
+        pub gathered_off : r ≡ None → group_arguments (fields_after space line end) ≡ other
+        gathered_off is = onward ∙ ap (λ (x : Option GroupMember). member_then x (λ a. before_last (line_members - (count + 1)) member_field (λ bs f. last (a ∷ bs) f) (second ∷ others))) is
 
-        pub gathered_turn : (m : GroupMember) → r ≡ MemberAnswer.Member m → Gathered line end (set members count m) (count + 1) to
+        pub gathered_turn : (m : GroupMember) → r ≡ Some m → Gathered line end (set members count m) (count + 1) to
         gathered_turn m is =
             let kept : first_members (count + 1) (set members count m) ≡ first_members count members ++ (member_of m ∷ []) =
             ap (map member_of) (ap (λ (k : ℕ). take k (set members count m)) (add-one count) ∙ take-suc-set members count m (omega (arith, g.places))) ∙ map-append member_of (take count members) (m ∷ []) in
@@ -135,7 +133,7 @@ module _ {line : List ℕ} {end : ℕ} {members : List GroupMember} {count at : 
               few = omega arith;
               same =
                   onward
-                  ∙ ap (λ (x : MemberField). member_then x (λ a. before_last (line_members - (count + 1)) member_field (λ bs f. last (a ∷ bs) f) (second ∷ others))) is
+                  ∙ ap (λ (x : Option GroupMember). member_then x (λ a. before_last (line_members - (count + 1)) member_field (λ bs f. last (a ∷ bs) f) (second ∷ others))) is
                   ∙ (λ i. before_last (line_members - (count + 1)) member_field (λ bs f. group_last (moved kept bs i) f) (sym behind i));
             }
           where
@@ -145,5 +143,5 @@ module _ {line : List ℕ} {end : ℕ} {members : List GroupMember} {count at : 
 
 -- ---- a line that is no group
 
-pub no_group_then : (line : List ℕ) (r : GroupFields) → r.read ≡ false → group_then line r ≡ other
-no_group_then line r e = ap (λ (t : Bool). if t then set_from line r.from (group (first_members r.count r.members)) else other) e
+pub no_group_then : (line : List ℕ) (r : Option GroupFields) → r ≡ None → group_then line r ≡ other
+no_group_then line r e = ap (group_then line) e

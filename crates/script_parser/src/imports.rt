@@ -7,45 +7,37 @@ ghost use Rattle.script_parser.specs.Fields.{fields_after};
 ghost use Rattle.script_parser.specs.Meaning.{set_from, script_command_of};
 ghost use Rattle.script_parser.specs.Imports.{SurfaceAfter, import_made, behind_surface, behind_room};
 
-use crate::fields::{HexField, NumberField, NumberFields, SPACE};
+use crate::fields::{NumberFields, SPACE};
 use crate::{ImportLine, ScriptCommand, SetLine, fields};
 use projection_patch::contract_primitives::{Epoch, Revision, StaticDocumentId, StaticSurfaceId};
 use projection_patch::patch::{
-    ProjectionPatchEnvelope, ProjectionPatchId, ProjectionPatchSequence, ProjectionPatchStreamId,
+    OptionalSurfaceId, ProjectionPatchEnvelope, ProjectionPatchId, ProjectionPatchSequence,
+    ProjectionPatchStreamId,
 };
 
-// A surface or none, and where its field ends; Other is any other field, or none.
-#[derive(Drop)]
-pub enum SurfaceField {
-    Surface(Option<StaticSurfaceId>, usize),
-    Other,
-}
-
-// The surface behind the field that ends at index end: a number, or a dash for none.
-fn surface_after(line: &[u8], end: usize) -> SurfaceField
+// The surface behind the field that ends at index end, a number, or a dash for none, and where its own field ends; None for any other field, or
+// none.
+fn surface_after(line: &[u8], end: usize) -> Option<(OptionalSurfaceId, usize)>
     ensures { SurfaceAfter line.now end result }
 {
     if line.len() <= end {
-        return SurfaceField::Other;
+        return None;
     }
     let from = end + 1;
     let to = fields::field_end(line, from, SPACE);
-    if fields::is_word(&line[from..to], b"-") {
-        return SurfaceField::Surface(None, to);
+    let field = &line[from..to];
+    if fields::is_word(field, b"-") {
+        return Some((OptionalSurfaceId::None, to));
     }
-    match bytes_decimal::read_u64(&line[from..to]) {
-        bytes_decimal::ReadU64::Read(n) => {
-            SurfaceField::Surface(Some(StaticSurfaceId::new(n)), to)
-        }
-        bytes_decimal::ReadU64::Malformed => SurfaceField::Other,
-    }
+    let n = bytes_decimal::read_u64(field)?;
+    Some((OptionalSurfaceId::Some(StaticSurfaceId::new(n)), to))
 }
 
 // The command of all fields: of the first numbers the collection, the patch's id, its stream and its document; of the last ones its revisions, epoch and sequence.
 fn import_command(
     room: u16,
     front: [u64; NumberFields::MOST],
-    surface: Option<StaticSurfaceId>,
+    surface: OptionalSurfaceId,
     back: [u64; NumberFields::MOST],
     from: usize,
 ) -> ScriptCommand
@@ -78,34 +70,30 @@ fn read_back(
     end: usize,
     room: u16,
     front: [u64; NumberFields::MOST],
-    surface: Option<StaticSurfaceId>,
+    surface: OptionalSurfaceId,
 ) -> ScriptCommand
     ensures { script_command_of line.now result ≡ behind_surface room front (surface_of surface) (fields_after space line.now end) }
 {
-    let numbers = fields::read_numbers(line, end, 4, SPACE);
-    let back = numbers.values;
-    if numbers.read {
-        return match fields::last_hex(line, numbers.end) {
-            HexField::From(from) => import_command(room, front, surface, back, from),
-            HexField::Other => ScriptCommand::Other,
-        };
+    let Some(back) = fields::read_numbers(line, end, 4, SPACE) else {
+        return ScriptCommand::Other;
+    };
+    match fields::last_hex(line, back.end) {
+        Some(from) => import_command(room, front, surface, back.values, from),
+        None => ScriptCommand::Other,
     }
-    ScriptCommand::Other
 }
 
 // The fields behind the room, which ends at index end.
 fn read_front(line: &[u8], end: usize, room: u16) -> ScriptCommand
     ensures { script_command_of line.now result ≡ behind_room room (fields_after space line.now end) }
 {
-    let numbers = fields::read_numbers(line, end, 4, SPACE);
-    let front = numbers.values;
-    if numbers.read {
-        return match surface_after(line, numbers.end) {
-            SurfaceField::Surface(surface, to) => read_back(line, to, room, front, surface),
-            SurfaceField::Other => ScriptCommand::Other,
-        };
+    let Some(front) = fields::read_numbers(line, end, 4, SPACE) else {
+        return ScriptCommand::Other;
+    };
+    match surface_after(line, front.end) {
+        Some((surface, to)) => read_back(line, to, room, front.values, surface),
+        None => ScriptCommand::Other,
     }
-    ScriptCommand::Other
 }
 
 // Reads the fields behind the word, which ends at index end. No more room is lent than a set may have bytes.
@@ -113,12 +101,7 @@ pub(crate) fn read_import(line: &[u8], end: usize) -> ScriptCommand
     ensures { script_command_of line.now result ≡ import_arguments (fields_after space line.now end) }
 {
     match fields::number_after(line, end, SPACE) {
-        NumberField::Number(room, to) => {
-            if room <= 32768 {
-                return read_front(line, to, room as u16);
-            }
-            ScriptCommand::Other
-        }
-        NumberField::Other => ScriptCommand::Other,
+        Some((room, to)) if room <= 32768 => read_front(line, to, room as u16),
+        _ => ScriptCommand::Other,
     }
 }

@@ -18,7 +18,7 @@ ghost use Rattle.script_parser.specs.Forms.{last_arguments, form_arguments, form
 ghost use Rattle.script_parser.specs.Meaning.{script_command_of};
 
 use bytes_hex::HexRefusal;
-use fields::{HexField, NumberFields};
+use fields::NumberFields;
 use projection_patch::patch::{ProjectionPatchEdition, ProjectionPatchEnvelope};
 use session_lifecycle::lifecycle::ShellTransitionInput;
 use session_lifecycle::state::ShellLifecycleLimits;
@@ -42,8 +42,23 @@ pub struct GroupMember {
     pub bytes: u64,
 }
 
+impl GroupMember {
+    // What stands in the unused places of a line.
+    pub(crate) const NONE: GroupMember = GroupMember {
+        batch: BatchLine {
+            session_id: 0,
+            sequence_no: 0,
+            patch_count: 0,
+            stimulus_bytes: 0,
+            target_references: 0,
+        },
+        edition: ProjectionPatchEdition::V1,
+        bytes: 0,
+    };
+}
+
 // A term list is brought in: into so many bytes, for a collection, under an envelope.
-#[derive(Drop)]
+#[derive(Clone, Copy)]
 pub struct ImportLine {
     pub room: u16,
     pub collection: u64,
@@ -51,7 +66,7 @@ pub struct ImportLine {
 }
 
 // A line for the next creation.
-#[derive(Drop)]
+#[derive(Clone, Copy)]
 pub enum SetupLine {
     Session(u64, ShellLifecycleLimits),
     Node(u64),
@@ -60,7 +75,7 @@ pub enum SetupLine {
 }
 
 // A line that calls the session or the senders' turns, or makes one of these; or the edition of the sets from here on. A print has so many bytes.
-#[derive(Drop)]
+#[derive(Clone, Copy)]
 pub enum CallLine {
     Create,
     Apply(ShellTransitionInput),
@@ -80,7 +95,7 @@ pub enum CallLine {
 }
 
 // What a line asks for with its set, or its term list: a batch to be sent, or the rule behind its refusal; a conversion into so many bytes, and what the set depends on into so many places.
-#[derive(Drop)]
+#[derive(Clone, Copy)]
 pub enum SetLine {
     Batch(BatchLine),
     Check,
@@ -93,7 +108,7 @@ pub enum SetLine {
 
 // What a line asks for. WithSet holds where the hex of the set starts in the line; such a line is Other if that is no hex. Group and Page
 // hold where the word ends, and read_group and read_page read the fields behind it.
-#[derive(Drop)]
+#[derive(Clone, Copy)]
 pub enum ScriptCommand {
     Nothing,
     Setup(SetupLine),
@@ -121,8 +136,8 @@ fn last_fields(
 {
     if forms::has_set(form) {
         return match fields::last_hex(line, end) {
-            HexField::From(from) => forms::set_command(form, values, from),
-            HexField::Other => ScriptCommand::Other,
+            Some(from) => forms::set_command(form, values, from),
+            None => ScriptCommand::Other,
         };
     }
     if end < line.len() {
@@ -137,12 +152,10 @@ fn counted_fields(line: &[u8], form: usize, end: usize) -> ScriptCommand
     ensures { script_command_of line.now result ≡ form_arguments (form_at form) (fields_after space line.now end) }
 {
     let count = forms::number_count(form);
-    let numbers = fields::read_numbers(line, end, count, fields::SPACE);
-    if numbers.read {
-        let values = numbers.values;
-        return last_fields(line, form, values, numbers.end);
+    match fields::read_numbers(line, end, count, fields::SPACE) {
+        Some(numbers) => last_fields(line, form, numbers.values, numbers.end),
+        None => ScriptCommand::Other,
     }
-    ScriptCommand::Other
 }
 
 // A line that is neither too long nor a remark.
@@ -169,10 +182,7 @@ pub fn parse_line(line: &[u8]) -> ScriptCommand
     if ScriptCommand::LINE_BYTES < line.len() {
         return ScriptCommand::Other;
     }
-    if line.len() == 0 {
-        return ScriptCommand::Nothing;
-    }
-    if line[0] == 35 {
+    if line.is_empty() || line[0] == b'#' {
         return ScriptCommand::Nothing;
     }
     parse_fields(line)

@@ -8,7 +8,7 @@ ghost use Rattle.script_parser.specs.FormPlaces.{SecondWord, FormOf};
 use crate::fields::{SPACE, field_end, is_word};
 
 // The form of a command, and where its word ends.
-#[derive(Drop)]
+#[derive(Clone, Copy)]
 pub struct FormAt {
     pub form: usize,
     pub end: usize,
@@ -62,7 +62,7 @@ fn second_form(line: &[u8], end: usize, words: &[u8], base: usize) -> FormAt
     if line.len() <= end {
         return FormAt {
             form: FormAt::NONE,
-            end: end,
+            end,
         };
     }
     let from = end + 1;
@@ -99,6 +99,6 @@ pub(crate) fn find_form(line: &[u8]) -> FormAt
     }
     FormAt {
         form: FormAt::FIRST + first,
-        end: end,
+        end,
     }
 }
