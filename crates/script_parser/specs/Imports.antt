@@ -5,16 +5,16 @@ use Rattle.std.proofs.Math.Option.{Option}
 use Rattle.spec_replay.specs.Lines.{space}
 use Rattle.spec_replay.specs.Script.{Command, import_list, other, Arguments, end, number_field, optional, hex}
 use Rattle.projection_patch.specs.Meaning.{surface_of}
-use Rattle.projection_patch.specs.declared.patch.OptionalSurfaceId.{OptionalSurfaceId}
+use Rattle.projection_patch.specs.declared.contract_primitives.StaticSurfaceId.{StaticSurfaceId}
 use Rattle.script_parser.specs.Fields.{fields_after, numbers, filled}
 use Rattle.script_parser.specs.Forms.{number_in}
 
 -- how reading goes on behind a surface
-abbrev pub surface_then : List ℕ → code.Option (OptionalSurfaceId × ℕ) → (Option ℕ → Arguments) → Command
+abbrev pub surface_then : List ℕ → code.Option (code.Option StaticSurfaceId × ℕ) → (Option ℕ → Arguments) → Command
 surface_then line (Some r) next = next (surface_of r.0) (fields_after space line r.1)
 surface_then line None next = other
 
-abbrev pub SurfaceAfter : List ℕ → ℕ → code.Option (OptionalSurfaceId × ℕ) → Type 0
+abbrev pub SurfaceAfter : List ℕ → ℕ → code.Option (code.Option StaticSurfaceId × ℕ) → Type 0
 SurfaceAfter line from r = (next : Option ℕ → Arguments) → optional next (fields_after space line from) ≡ surface_then line r next
 
 -- the command of all fields

@@ -1,5 +1,9 @@
 -- What a parsed line stands for in spec_replay. Hex is read from its place in the line; what is no hex makes any other line.
+use Rattle.std.specs.Prelude as code
 use Rattle.std.specs.Prelude.{ℕ, List, map, take, drop}
+use Rattle.std.proofs.Math.Option.{Option, none, some}
+use Rattle.spec_patch.specs.Edition as sets
+use Rattle.projection_patch.specs.declared.patch.ProjectionPatchEdition.{ProjectionPatchEdition}
 use Rattle.spec_session.specs.Batch.{BatchEnvelope}
 use Rattle.spec_group.specs.Group.{GroupBatch}
 use Rattle.spec_replay.specs.Script as script
@@ -20,6 +24,11 @@ use Rattle.script_parser.specs.declared.SetLine.{SetLine}
 use Rattle.script_parser.specs.declared.SetLine.TheVariants.{Batch, Check, List as Listed, Convert, Depends, Import, Explain}
 use Rattle.script_parser.specs.declared.ScriptCommand.{ScriptCommand}
 use Rattle.script_parser.specs.declared.ScriptCommand.TheVariants.{Nothing, Setup, Call, WithSet, Group, Page, Other}
+
+-- an edition, where a number names one
+abbrev pub edition_read : code.Option ProjectionPatchEdition → Option sets.Edition
+edition_read (code.Some e) = some (edition_of e)
+edition_read code.None = none
 
 abbrev pub script_envelope_of : BatchLine → BatchEnvelope
 script_envelope_of b = record { session = b.session_id; sequence = b.sequence_no; patches = b.patch_count; stimulus_bytes = b.stimulus_bytes }

@@ -7,7 +7,7 @@ ghost use Rattle.spec_replay.specs.Script.{places_lent, bytes_lent, given, numbe
 ghost use Rattle.session_lifecycle.specs.Meaning.{stimulus_of};
 ghost use Rattle.script_parser.specs.Fields.{most_numbers};
 ghost use Rattle.script_parser.specs.Forms.{up_to, with_slot, first_base, form_count, form_at};
-ghost use Rattle.script_parser.specs.Meaning.{set_from, script_command_of};
+ghost use Rattle.script_parser.specs.Meaning.{edition_read, set_from, script_command_of};
 
 use crate::fields::NumberFields;
 use crate::words::FormAt;
@@ -83,13 +83,23 @@ fn lifecycle_step(command: ShellLifecycleCommand, bytes: u64) -> ScriptCommand
     }))
 }
 
+// The edition that a number names.
+pub(crate) fn numbered_edition(number: u64) -> Option<ProjectionPatchEdition>
+    ensures { edition_read result ≡ numbered_edition (some number) }
+{
+    match number {
+        1 => Some(ProjectionPatchEdition::V1),
+        2 => Some(ProjectionPatchEdition::V2),
+        _ => None,
+    }
+}
+
 fn edition(number: u64) -> ScriptCommand
     ensures { (line : List ℕ) → script_command_of line result ≡ given (numbered_edition (some number)) script.edition }
 {
-    match number {
-        1 => ScriptCommand::Call(CallLine::Edition(ProjectionPatchEdition::V1)),
-        2 => ScriptCommand::Call(CallLine::Edition(ProjectionPatchEdition::V2)),
-        _ => ScriptCommand::Other,
+    match numbered_edition(number) {
+        Some(edition) => ScriptCommand::Call(CallLine::Edition(edition)),
+        None => ScriptCommand::Other,
     }
 }
 

@@ -11,13 +11,12 @@ use crate::fields::{NumberFields, SPACE};
 use crate::{ImportLine, ScriptCommand, SetLine, fields};
 use projection_patch::contract_primitives::{Epoch, Revision, StaticDocumentId, StaticSurfaceId};
 use projection_patch::patch::{
-    OptionalSurfaceId, ProjectionPatchEnvelope, ProjectionPatchId, ProjectionPatchSequence,
-    ProjectionPatchStreamId,
+    ProjectionPatchEnvelope, ProjectionPatchId, ProjectionPatchSequence, ProjectionPatchStreamId,
 };
 
 // The surface behind the field that ends at index end, a number, or a dash for none, and where its own field ends; None for any other field, or
 // none.
-fn surface_after(line: &[u8], end: usize) -> Option<(OptionalSurfaceId, usize)>
+fn surface_after(line: &[u8], end: usize) -> Option<(Option<StaticSurfaceId>, usize)>
     ensures { SurfaceAfter line.now end result }
 {
     if line.len() <= end {
@@ -27,17 +26,17 @@ fn surface_after(line: &[u8], end: usize) -> Option<(OptionalSurfaceId, usize)>
     let to = fields::field_end(line, from, SPACE);
     let field = &line[from..to];
     if fields::is_word(field, b"-") {
-        return Some((OptionalSurfaceId::None, to));
+        return Some((None, to));
     }
     let n = bytes_decimal::read_u64(field)?;
-    Some((OptionalSurfaceId::Some(StaticSurfaceId::new(n)), to))
+    Some((Some(StaticSurfaceId::new(n)), to))
 }
 
 // The command of all fields: of the first numbers the collection, the patch's id, its stream and its document; of the last ones its revisions, epoch and sequence.
 fn import_command(
     room: u16,
     front: [u64; NumberFields::MOST],
-    surface: OptionalSurfaceId,
+    surface: Option<StaticSurfaceId>,
     back: [u64; NumberFields::MOST],
     from: usize,
 ) -> ScriptCommand
@@ -70,7 +69,7 @@ fn read_back(
     end: usize,
     room: u16,
     front: [u64; NumberFields::MOST],
-    surface: OptionalSurfaceId,
+    surface: Option<StaticSurfaceId>,
 ) -> ScriptCommand
     ensures { script_command_of line.now result ≡ behind_surface room front (surface_of surface) (fields_after space line.now end) }
 {
@@ -100,8 +99,12 @@ fn read_front(line: &[u8], end: usize, room: u16) -> ScriptCommand
 pub(crate) fn read_import(line: &[u8], end: usize) -> ScriptCommand
     ensures { script_command_of line.now result ≡ import_arguments (fields_after space line.now end) }
 {
-    match fields::number_after(line, end, SPACE) {
-        Some((room, to)) if room <= 32768 => read_front(line, to, room as u16),
-        _ => ScriptCommand::Other,
+    let Some((room, to)) = fields::number_after(line, end, SPACE) else {
+        return ScriptCommand::Other;
+    };
+    if room <= 32768 {
+        read_front(line, to, room as u16)
+    } else {
+        ScriptCommand::Other
     }
 }

@@ -64,11 +64,11 @@ pub fn read_page(line: &[u8], end: usize) -> Option<PageFields>
     if PageFields::PLACES < room {
         return None;
     }
-    let keys = read_keys(line, numbers.end)?;
+    let KeyFields { keys, count } = read_keys(line, numbers.end)?;
     Some(PageFields {
         collection,
         room: room as u8,
-        keys: keys.keys,
-        count: keys.count,
+        keys,
+        count,
     })
 }

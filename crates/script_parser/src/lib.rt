@@ -182,7 +182,10 @@ pub fn parse_line(line: &[u8]) -> ScriptCommand
     if ScriptCommand::LINE_BYTES < line.len() {
         return ScriptCommand::Other;
     }
-    if line.is_empty() || line[0] == b'#' {
+    if line.is_empty() {
+        return ScriptCommand::Nothing;
+    }
+    if line[0] == b'#' {
         return ScriptCommand::Nothing;
     }
     parse_fields(line)

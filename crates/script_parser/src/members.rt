@@ -7,8 +7,7 @@ ghost use Rattle.script_parser.specs.Fields.{fields_after};
 ghost use Rattle.script_parser.specs.Members.{member_then, member_made, group_then};
 
 use crate::fields::{COMMA, NumberFields, SPACE};
-use crate::{BatchLine, GroupMember, fields};
-use projection_patch::patch::ProjectionPatchEdition;
+use crate::{BatchLine, GroupMember, fields, forms};
 
 // The batches of a group in the first places, and where the hex of their sets starts.
 #[derive(Clone, Copy)]
@@ -34,11 +33,7 @@ fn member_of(values: [u64; NumberFields::MOST]) -> Option<GroupMember>
         stimulus_bytes: values[3],
         target_references: values[4],
     };
-    let edition = match values[5] {
-        1 => ProjectionPatchEdition::V1,
-        2 => ProjectionPatchEdition::V2,
-        _ => return None,
-    };
+    let edition = forms::numbered_edition(values[5])?;
     Some(GroupMember {
         batch,
         edition,

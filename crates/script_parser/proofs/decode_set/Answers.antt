@@ -14,3 +14,9 @@ use Rattle.script_parser.proofs.decode_set.Goals as goal
 nothing_there : (line out : List ℕ) (from : ℕ) → length line ≤ from → (Err Malformed ≡ decoding (length out) (read_hex (drop from line))) × (out ≡ decoded_into out (read_hex (drop from line)))
 unfolding read_hex decoding decoded_into
 nothing_there line out from h = (rw (drop_of_length-le line h), rw (drop_of_length-le line h))
+
+pub returns-in_err-text : goal.returns-in_err-text
+returns-in_err-text c =
+    let gone : c.from_residual.result ≡ Err Malformed = search rules in
+    let past : length c.args.line.now < c.args.from = search rules in
+    let all = nothing_there c.args.line.now c.args.out.now c.args.from (omega arith) in record { value = gone ∙ all.0; out_after = all.1 }

@@ -1,8 +1,10 @@
 -- `script_parser::imports::read_back` meets its contract: four numbers, and hex behind them.
 use Rattle.std.specs.Prelude as code
+use Prim.Native.Nat.{ℕ}
+use mathlib.Core.List.{List}
 use mathlib.Core.Path.{◌≡◌, sym, ap, ◌∙◌}
 use Rattle.spec_replay.specs.Lines.{space}
-use Rattle.spec_replay.specs.Script.{end, hex}
+use Rattle.spec_replay.specs.Script.{Command, end, hex}
 use Rattle.projection_patch.specs.Meaning.{surface_of}
 use Rattle.script_parser.specs.Fields.{fields_after, hex_then, numbers_then}
 use Rattle.script_parser.specs.Imports.{import_made, behind_surface}
@@ -20,13 +22,13 @@ by-numbers c r is =
 pub returns-in_default : goal.returns-in_default
 returns-in_default c = sym (by-numbers (goal.at.returns-in_default c).After-read_numbers _ c.in_default.is)
 
-pub returns-in-Some : goal.returns-in-Some
-returns-in-Some c =
-    let behind = λ list. import_made c.args.room c.args.front (surface_of c.args.surface) c.in-Some.back.values list in
+pub returns-in-Some-last_hex : goal.returns-in-Some-last_hex
+returns-in-Some-last_hex c =
+    let behind : List ℕ → Command = λ list. import_made c.args.room c.args.front (surface_of c.args.surface) c.in-Some.back.values list in
     c.import_command.ensures c.args.line.now
-    ∙ sym (by-numbers (goal.at.returns-in-Some c).After-read_numbers _ c.in-Some.is ∙ c.last_hex.ensures behind ∙ ap (λ x. hex_then c.args.line.now x behind) c.in-Some-2.is)
+    ∙ sym (by-numbers (goal.at.returns-in-Some-last_hex c).After-read_numbers _ c.in-Some.is ∙ c.last_hex.ensures behind ∙ ap (λ x. hex_then c.args.line.now x behind) c.in-Some-last_hex.is)
 
 pub returns-in-None : goal.returns-in-None
 returns-in-None c =
-    let behind = λ list. import_made c.args.room c.args.front (surface_of c.args.surface) c.in-Some.back.values list in
+    let behind : List ℕ → Command = λ list. import_made c.args.room c.args.front (surface_of c.args.surface) c.in-Some.back.values list in
     sym (by-numbers (goal.at.returns-in-None c).After-read_numbers _ c.in-Some.is ∙ c.last_hex.ensures behind ∙ ap (λ x. hex_then c.args.line.now x behind) c.in-None.is)

@@ -1,54 +1,42 @@
 -- `script_parser::members::read_group` meets its contract. The invariant: the batches of the fields so far stand in the first places. The measure is what is left of the line.
-use Prim.Native.Nat.{◌-◌, ◌≤◌}
-use mathlib.Core.Path.{◌≡◌, sym, ◌∙◌}
+use Rattle.std.specs.Prelude.{None, IfSome}
+use mathlib.Core.Path.{◌≡◌, refl, sym, ap, ◌∙◌}
 use native.Mathlib.Omega.{arith}
-use lib.ListN.{length}
 use borrow.Author.Rules.{rules}
-use Rattle.spec_replay.specs.Lines.{space}
-use Rattle.spec_replay.specs.Script.{other, line_members, group_arguments}
-use Rattle.script_parser.specs.Fields.{fields_after}
 use Rattle.script_parser.specs.Members.{group_then}
-use Rattle.script_parser.specs.MembersLaws.{Gathered, gathered_start, gathered_none, gathered_last, gathered_many, gathered_off, gathered_turn, no_group_then}
+use Rattle.script_parser.specs.MembersLaws.{Gathered, gathered_start, gathered_none, gathered_last, gathered_many, gathered_off, gathered_turn}
 use Rattle.script_parser.proofs.members.read_group.Goals as goal
-use Rattle.script_parser.proofs.members.read_group.Goals.{After-no_group-none}
-
--- what was not read as a group
-nothing : (c : After-no_group-none) → group_arguments (fields_after space c.args.line.now c.args.end) ≡ other
-    → (group_arguments (fields_after space c.args.line.now c.args.end) ≡ group_then c.args.line.now c.no_group-none.result)
-    × ((c.no_group-none.result.count ≤ line_members) × (length c.no_group-none.result.members ≡ line_members))
-nothing c e =
-    (e ∙ sym (no_group_then c.args.line.now c.no_group-none.result c.no_group-none.ensures.0), (omega (arith, c.no_group-none.ensures.1.1), c.no_group-none.ensures.1.0))
 
 pub loop-at-init : goal.loop-at-init
-loop-at-init c =
-    gathered_start c.args.line.now c.args.end _ c.no_group-none.ensures.1.0
+loop-at-init c = gathered_start c.args.line.now c.args.end _ refl
 
-pub returns-then-line-to : goal.returns-then-line-to
-returns-then-line-to c =
-    record { told = gathered_last c.loop-at.invariant c.field_end-to.result c.field_end-to.ensures c.loop-at-test.true c.if-line-to.true; within = (c.loop-at.invariant.few, c.loop-at.invariant.places) }
+pub returns-then-line-to-clause-told : goal.returns-then-line-to-clause-told
+returns-then-line-to-clause-told c = gathered_last c.loop-at.invariant c.field_end-to.result c.field_end-to.ensures c.loop-at-test.true c.if-line-to.true
 
-pub returns-then-count-ge-MOST : goal.returns-then-count-ge-MOST
-returns-then-count-ge-MOST c =
-    let all = nothing (goal.at.returns-then-count-ge-MOST c).After-no_group-none (gathered_many c.loop-at.invariant c.field_end-to.result c.field_end-to.ensures c.loop-at-test.true c.if-line-to.false c.if-count-ge-MOST.true) in record { told = all.0; within = all.1 }
+pub returns-then-line-to-clause-within : goal.returns-then-line-to-clause-within
+returns-then-line-to-clause-within c = (c.loop-at.invariant.few, c.loop-at.invariant.places)
+
+pub returns-then-count-ge-MOST-clause-told : goal.returns-then-count-ge-MOST-clause-told
+returns-then-count-ge-MOST-clause-told c = gathered_many c.loop-at.invariant c.field_end-to.result c.field_end-to.ensures c.loop-at-test.true (omega arith) c.if-count-ge-MOST.true
 
 pub slice_bounds-read_member-start : goal.slice_bounds-read_member-start
 slice_bounds-read_member-start c = omega (arith, c.field_end-to.ensures)
 
 pub slice_bounds-read_member-end : goal.slice_bounds-read_member-end
-slice_bounds-read_member-end c = omega (arith, c.if-line-to.false)
+slice_bounds-read_member-end c = omega arith
 
-pub returns-in_default : goal.returns-in_default
-returns-in_default c =
-    let all = nothing (goal.at.returns-in_default c).After-no_group-none (gathered_off c.loop-at.invariant c.field_end-to.result c.field_end-to.ensures c.loop-at-test.true c.if-line-to.false c.if-count-ge-MOST.false c.read_member.result c.read_member.ensures c.in_default.is) in record { told = all.0; within = all.1 }
+pub returns-in_err-members-clause-told : goal.returns-in_err-members-clause-told
+returns-in_err-members-clause-told c =
+    let gone : c.from_residual.result ≡ None = search rules in
+    gathered_off c.loop-at.invariant c.field_end-to.result c.field_end-to.ensures c.loop-at-test.true (omega arith) (omega arith) c.read_member.result c.read_member.ensures c.in_err-members.was
+    ∙ sym (ap (group_then c.args.line.now) gone)
 
 pub loop-at-smaller : goal.loop-at-smaller
-loop-at-smaller c =
-    omega (arith, c.field_end-to.ensures, c.loop-at-test.true)
+loop-at-smaller c = omega (arith, c.field_end-to.ensures, c.loop-at-test.true)
 
 pub loop-at-preserved : goal.loop-at-preserved
 loop-at-preserved c =
-    gathered_turn c.loop-at.invariant c.field_end-to.result c.field_end-to.ensures c.loop-at-test.true c.if-line-to.false c.if-count-ge-MOST.false c.read_member.result c.read_member.ensures c.in-Member.member c.in-Member.is
+    gathered_turn c.loop-at.invariant c.field_end-to.result c.field_end-to.ensures c.loop-at-test.true (omega arith) (omega arith) c.read_member.result c.read_member.ensures _ c.in_ok-members.was
 
-pub returns : goal.returns
-returns c =
-    let all = nothing (goal.at.returns c).After-no_group-none (gathered_none c.loop-at.invariant c.loop-at-test.false) in record { told = all.0; within = all.1 }
+pub returns-clause-told : goal.returns-clause-told
+returns-clause-told c = gathered_none c.loop-at.invariant (omega arith)
