@@ -10,6 +10,9 @@ use lib.Dec.{ltb, leb}
 use lib.ListN.{length, get_or, drop, length-drop, drop_of_length-le}
 use lib.Seq.{drop-cons, get_or-drop}
 use borrow.Author.Tests.{ltb-true, ltb-false, lt-ltb, le-ltb, le-leb, lt-leb, eq-eqb, ne_eqb}
+use Rattle.std.specs.Prelude as code
+use Rattle.std.specs.Prelude.{SomeIff}
+use Rattle.spec_lists.specs.Options.{optional_of}
 use Rattle.spec_lists.specs.Lists.{all}
 use Rattle.spec_lists.proofs.ListLaws.{and_left, and_right, test_cases}
 use Rattle.spec_decimal.specs.Decimal.{is_digit, is_numeral, number_with, read_decimal}
@@ -32,6 +35,13 @@ digit_fits n b h g s = rw (le-leb 48 b h, le-leb b 57 g, lt-ltb (10 * n + (b - 4
 pub digit_exceeds : (n b : ℕ) → 48 ≤ b → b ≤ 57 → 2 ^ 64 ≤ 10 * n + (b - 48) → with_digit n b ≡ none
 unfolding with_digit
 digit_exceeds n b h g s = rw (le-leb 48 b h, le-leb b 57 g, le-ltb (10 * n + (b - 48)) (2 ^ 64) s)
+
+-- the digit added to ten times the number
+pub digit_added : (n b : ℕ) → 48 ≤ b → b ≤ 57 → {m d : ℕ} → m ≡ n * 10 → d ≡ b - 48 → (r : code.Option ℕ) → SomeIff r (m + d < 2 ^ 64) (m + d) → optional_of r ≡ with_digit n b
+digit_added n b h g {m} {d} tens unit (code.Some x) e =
+    let sum : x ≡ 10 * n + (b - 48) = omega (arith, e.1) in
+    ap some sum ∙ sym (digit_fits n b h g (omega (arith, e.0)))
+digit_added n b h g {m} {d} tens unit code.None e = sym (digit_exceeds n b h g (omega (arith, e)))
 
 -- ---- further digits
 
@@ -78,29 +88,26 @@ module _ (text : List ℕ) (i : ℕ) (n : ℕ) where
 
 -- ---- a numeral
 
-pub none_empty : (text : List ℕ) (from : ℕ) → length text ≤ from → read_decimal (drop from text) ≡ none
+pub none_empty : (bs : List ℕ) → length bs < 1 → read_decimal bs ≡ none
 unfolding read_decimal is_numeral
-none_empty text from h = rw (drop_of_length-le text h)
+none_empty [] h = refl
+none_empty (b ∷ bs) h = absurd (omega arith)
 
-leading_zero : (bs : List ℕ) → 1 < length bs → get_or bs 0 0 ≡ 48 → read_decimal bs ≡ none
+pub leading_zero : (bs : List ℕ) → 1 < length bs → get_or bs 0 0 ≡ 48 → read_decimal bs ≡ none
 unfolding read_decimal is_numeral
 leading_zero [] h e = absurd (omega arith)
 leading_zero (b ∷ []) h e = absurd (omega arith)
 leading_zero (b ∷ c ∷ bs) h e = rw (eq-eqb b 48 e)
 
 -- the digits of a numeral are read as they stand
-numeral : (bs : List ℕ) → 1 ≤ length bs → (get_or bs 0 0 ≡ 48 → length bs ≤ 1) → read_digits 0 bs ≡ read_decimal bs
+pub one_digit : (bs : List ℕ) → length bs ≡ 1 → read_digits 0 bs ≡ read_decimal bs
 unfolding read_decimal read_digits is_numeral
-numeral [] h g = absurd (omega arith)
-numeral (b ∷ []) h g = refl
-numeral (b ∷ c ∷ bs) h g = rw (ne_eqb b 48 (λ e. omega (arith, g e)))
+one_digit [] h = absurd (omega arith)
+one_digit (b ∷ []) h = refl
+one_digit (b ∷ c ∷ bs) h = absurd (omega arith)
 
-module _ (text : List ℕ) (from : ℕ) where
-  first : get_or (drop from text) 0 0 ≡ get_or text from 0
-  first = get_or-drop from text 0 0 ∙ ap (λ (i : ℕ). get_or text i 0) (omega arith)
-
-  pub zero_leads : 1 < length text - from → get_or text from 0 ≡ 48 → read_decimal (drop from text) ≡ none
-  zero_leads h e = leading_zero (drop from text) (simp length-drop (omega arith)) (first ∙ e)
-
-  pub no_zero_leads : from < length text → (get_or text from 0 ≡ 48 → length text - from ≤ 1) → read_digits 0 (drop from text) ≡ read_decimal (drop from text)
-  no_zero_leads h g = numeral (drop from text) (simp length-drop (omega arith)) (λ e. simp length-drop (g (sym first ∙ e)))
+pub no_zero_leads : (bs : List ℕ) → 1 ≤ length bs → (get_or bs 0 0 ≡ 48 → ⊥) → read_digits 0 bs ≡ read_decimal bs
+unfolding read_decimal read_digits is_numeral
+no_zero_leads [] h g = absurd (omega arith)
+no_zero_leads (b ∷ []) h g = refl
+no_zero_leads (b ∷ c ∷ bs) h g = rw (ne_eqb b 48 g)

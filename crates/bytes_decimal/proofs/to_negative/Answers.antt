@@ -1,31 +1,21 @@
 -- `bytes_decimal::to_negative` meets its contract: −n is computed as -1 - (n - 1).
-use Prim.Native.Nat.{◌-◌}
-use mathlib.Core.Path.{◌≡◌, sym, ap, ◌∙◌}
-use mathlib.Core.Option.{some}
-use native.Mathlib.Omega.{arith}
-use lib.IntN.{ℤ, negsuc}
-use mir.Syntax.{w64}
-use mir.Val.{to_z, of_z}
-use mir.Facts.{to_z-of_z, to_z_pos}
-use Rattle.bytes_wire.proofs.Complement.{flip, flip_pos}
-use Rattle.bytes_decimal.proofs.Signs.{negative_zero, negative_fits, negative_exceeds}
+use Rattle.std.proofs.Common.{sym, ap, ◌∙◌, arith}
+use Rattle.spec_lists.specs.Options.{optional_of}
+use Rattle.bytes_decimal.proofs.Signs.{negative_zero, negative_refused, negative_tried}
 use Rattle.bytes_decimal.proofs.to_negative.Goals as goal
-use Rattle.bytes_decimal.proofs.to_negative.Goals.{Then-n-lt9223372036854775808}
 
-flipped : (c : Then-n-lt9223372036854775808) → flip (to_z w64 (c.args.n - 1)) ≡ negsuc (c.args.n - 1)
-flipped c = ap flip (to_z_pos w64 c.if-n-lt9223372036854775808.true) ∙ flip_pos (c.args.n - 1)
+pub returns-in_err-checked_sub : goal.returns-in_err-checked_sub
+returns-in_err-checked_sub c = ap optional_of c.from_residual.ensures ∙ sym (negative_zero c.args.n (omega (arith, c.in_err-checked_sub.ensures)))
 
-pub returns-then-n-eq0 : goal.returns-then-n-eq0
-returns-then-n-eq0 c = sym (negative_zero _ c.if-n-eq0.true)
+pub returns-in_err-ok : goal.returns-in_err-ok
+returns-in_err-ok c =
+    ap optional_of c.from_residual-in_err-ok.ensures
+    ∙ negative_refused c.args.n c.in_ok-checked_sub.field-0 c.in_ok-checked_sub.ensures c.try_from.result c.try_from.ensures c.in_err-ok.ensures.value
 
-pub overflow_sub-result-then-n-lt9223372036854775808 : goal.overflow_sub-result-then-n-lt9223372036854775808
-overflow_sub-result-then-n-lt9223372036854775808 c = rw (flipped c) (record { sfits = c.if-n-lt9223372036854775808.true })
+pub overflow_sub-result : goal.overflow_sub-result
+overflow_sub-result c =
+    (negative_tried c.args.n c.in_ok-checked_sub.field-0 c.in_ok-checked_sub.ensures c.try_from.result c.try_from.ensures c.in_ok-ok.field-0 c.in_ok-ok.ensures.value).0
 
-pub returns-then-n-lt9223372036854775808 : goal.returns-then-n-lt9223372036854775808
-returns-then-n-lt9223372036854775808 c =
-    ap (λ (z : ℤ). some (to_z w64 (of_z w64 z))) (flipped c)
-    ∙ ap (λ (z : ℤ). some z) (to_z-of_z {w = w64} (record { sfits = c.if-n-lt9223372036854775808.true }))
-    ∙ sym (negative_fits c.args.n (omega arith) c.if-n-lt9223372036854775808.true)
-
-pub returns-else-n-lt9223372036854775808 : goal.returns-else-n-lt9223372036854775808
-returns-else-n-lt9223372036854775808 c = sym (negative_exceeds _ (omega arith) c.if-n-lt9223372036854775808.false)
+pub returns : goal.returns
+returns c =
+    (negative_tried c.args.n c.in_ok-checked_sub.field-0 c.in_ok-checked_sub.ensures c.try_from.result c.try_from.ensures c.in_ok-ok.field-0 c.in_ok-ok.ensures.value).1
