@@ -24,7 +24,6 @@ mod texts;
 
 ghost use Rattle.std.specs.Prelude.{◌+◌, ◌≤◌, length};
 
-use bytes_decimal::ReadU64;
 use std::io;
 
 // The most bytes of the input.
@@ -108,8 +107,8 @@ fn run(input: &mut [u8]) -> u64 {
     }
     let way = input[0];
     match bytes_decimal::read_u64(&input[2..end]) {
-        ReadU64::Read(times) => use_often(way, &mut input[end + 1..], times),
-        ReadU64::Malformed => 0,
+        Some(times) => use_often(way, &mut input[end + 1..], times),
+        None => 0,
     }
 }
 

@@ -41,15 +41,7 @@ fn read_digits(text: &[u8]) -> Option<u64>
     Some(n)
 }
 
-#[tactic(
-    auto,
-    using(
-        crate::proofs::Reading::none_empty,
-        crate::proofs::Reading::leading_zero,
-        crate::proofs::Reading::one_digit,
-        crate::proofs::Reading::no_zero_leads
-    )
-)]
+#[tactic(auto, using(crate::proofs::Reading::none_empty, crate::proofs::Reading::leading_zero, crate::proofs::Reading::one_digit, crate::proofs::Reading::no_zero_leads))]
 pub fn read_u64(text: &[u8]) -> Option<u64>
     ensures { optional_of result ≡ read_decimal text.now }
 {

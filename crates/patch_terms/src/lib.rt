@@ -5,7 +5,6 @@ ghost use Rattle.std.specs.Prelude.{◌≡◌, ◌==◌, ◌≤◌, length, drop
 ghost use Rattle.patch_terms.specs.Places.{byte_place_of};
 ghost use Rattle.patch_terms.specs.Answers.{judged_term, term_answer, line_answer, HoldsTerm};
 
-use bytes_decimal::ReadU64;
 use projection_patch::patch::ProjectionPatchValue;
 use projection_patch::text_rule::{TextFault, judge_text};
 
@@ -72,8 +71,8 @@ fn read_term(line: &[u8]) -> Result<(u64, usize), TermRefusal>
         return Err(TermRefusal::OtherForm);
     }
     match bytes_decimal::read_u64(&line[..tab]) {
-        ReadU64::Read(key) => judge_term(key, start, &line[start..]),
-        ReadU64::Malformed => Err(TermRefusal::OtherForm),
+        Some(key) => judge_term(key, start, &line[start..]),
+        None => Err(TermRefusal::OtherForm),
     }
 }
 
@@ -99,7 +98,7 @@ pub fn reread_line(list: &[u8], at: usize) -> TermLine
 {
     let end = at + place_of(&list[at..], NEWLINE);
     let tab = at + place_of(&list[at..end], TAB);
-    let ReadU64::Read(key) = bytes_decimal::read_u64(&list[at..tab]) else {
+    let Some(key) = bytes_decimal::read_u64(&list[at..tab]) else {
         unreachable!()
     };
     TermLine {

@@ -10,7 +10,7 @@ use lib.Seq.{length-take-le}
 use borrow.Author.Rules.{rules}
 use Rattle.spec_listing.specs.Escapes.{tab}
 use Rattle.spec_decimal.specs.Decimal.{read_decimal}
-use Rattle.bytes_decimal.specs.Read.{decimal_u64}
+use Rattle.spec_lists.specs.Options.{optional_of}
 use Rattle.spec_lists.proofs.ListLaws.{lent_from_lem}
 use Rattle.patch_terms.specs.Places.{byte_place_of}
 use Rattle.patch_terms.specs.PlacesLaws.{byte_place_of_within}
@@ -48,7 +48,7 @@ only c =
     omega (arith, byte_place_of_within tab (behind (goal.at.Else-place_of-line c).Else-tab-line), sym (c.place_of.ensures.place ∙ ap (byte_place_of tab) (lent (goal.at.Else-place_of-line c).Else-tab-line)), c.if-place_of-line.false, length-drop (suc (byte_place_of tab (line (goal.at.Else-place_of-line c).After-place_of-tab))) (line (goal.at.Else-place_of-line c).After-place_of-tab), started (goal.at.Else-place_of-line c).Else-tab-line)
 
 -- what the bytes before it spell
-spelled : (k : After-read_u64) → let l = line (goal.at.After-read_u64 k).After-place_of-tab in read_decimal (take (byte_place_of tab l) l) ≡ decimal_u64 k.read_u64.result
+spelled : (k : After-read_u64) → let l = line (goal.at.After-read_u64 k).After-place_of-tab in read_decimal (take (byte_place_of tab l) l) ≡ optional_of k.read_u64.result
 spelled k =
     sym (k.read_u64.ensures ∙ ap (λ (n : ℕ). read_decimal (take n (line (goal.at.After-read_u64 k).After-place_of-tab))) k.place_of-tab.ensures.place)
 
@@ -80,11 +80,11 @@ slice_bounds-judge_term-count c = inside (goal.at.slice_bounds-judge_term-count 
 pub slice_bounds-judge_term-start : goal.slice_bounds-judge_term-start
 slice_bounds-judge_term-start c = inside (goal.at.slice_bounds-judge_term-start c).Else-tab-line
 
-pub returns-in-Read : goal.returns-in-Read
-returns-in-Read c =
-    c.judge_term.ensures ∙ ap (judged_term _ (start (goal.at.returns-in-Read c).Else-tab-line)) (lent (goal.at.returns-in-Read c).Else-tab-line)
-    ∙ line_judged (line (goal.at.returns-in-Read c).After-place_of-tab) (found (goal.at.returns-in-Read c).Else-tab-line) (only (goal.at.returns-in-Read c).Else-place_of-line) _ (spelled (goal.at.returns-in-Read c).After-read_u64 ∙ ap decimal_u64 c.in-Read.is) (start (goal.at.returns-in-Read c).Else-tab-line) (started (goal.at.returns-in-Read c).Else-tab-line)
+pub returns-in-Some : goal.returns-in-Some
+returns-in-Some c =
+    c.judge_term.ensures ∙ ap (judged_term _ (start (goal.at.returns-in-Some c).Else-tab-line)) (lent (goal.at.returns-in-Some c).Else-tab-line)
+    ∙ line_judged (line (goal.at.returns-in-Some c).After-place_of-tab) (found (goal.at.returns-in-Some c).Else-tab-line) (only (goal.at.returns-in-Some c).Else-place_of-line) _ (spelled (goal.at.returns-in-Some c).After-read_u64 ∙ ap optional_of c.in-Some.is) (start (goal.at.returns-in-Some c).Else-tab-line) (started (goal.at.returns-in-Some c).Else-tab-line)
 
-pub returns-in-Malformed : goal.returns-in-Malformed
-returns-in-Malformed c =
-    line_unspelled (line (goal.at.returns-in-Malformed c).After-place_of-tab) (found (goal.at.returns-in-Malformed c).Else-tab-line) (only (goal.at.returns-in-Malformed c).Else-place_of-line) (spelled (goal.at.returns-in-Malformed c).After-read_u64 ∙ ap decimal_u64 c.in-Malformed.is)
+pub returns-in-None : goal.returns-in-None
+returns-in-None c =
+    line_unspelled (line (goal.at.returns-in-None c).After-place_of-tab) (found (goal.at.returns-in-None c).Else-tab-line) (only (goal.at.returns-in-None c).Else-place_of-line) (spelled (goal.at.returns-in-None c).After-read_u64 ∙ ap optional_of c.in-None.is)

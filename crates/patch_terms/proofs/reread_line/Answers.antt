@@ -11,14 +11,14 @@ use lib.ListN.{length, take, drop, length-drop}
 use lib.Seq.{length-take-le, take-take}
 use Rattle.spec_decimal.specs.Decimal.{read_decimal}
 use Rattle.spec_listing.specs.Escapes.{tab, newline}
-use Rattle.bytes_decimal.specs.Read.{decimal_u64}
+use Rattle.spec_lists.specs.Options.{optional_of}
 use Rattle.spec_lists.proofs.ListLaws.{lent_from_lem}
 use Rattle.patch_terms.specs.Places.{byte_place_of, first_term_line}
 use Rattle.patch_terms.specs.PlacesLaws.{byte_place_of_within}
 use Rattle.patch_terms.specs.Answers.{line_ok, line_to, term_answer, HoldsTerm}
 use Rattle.patch_terms.specs.AnswersLaws.{known_tab, known_key}
 use Rattle.patch_terms.proofs.reread_line.Goals as goal
-use Rattle.patch_terms.proofs.reread_line.Goals.{After-place_of, After-place_of-2, After-read_u64, In-Read}
+use Rattle.patch_terms.proofs.reread_line.Goals.{After-place_of, After-place_of-2, After-read_u64, In-Some}
 
 abbrev at : After-place_of → ℕ
 at k = k.args.at
@@ -51,15 +51,15 @@ before-end : (k : After-place_of-2) → k.place_of-2.result < k.place_of.result
 before-end k =
     omega (arith, tab-at k, known_tab (line (goal.at.After-place_of-2 k).After-place_of) (holds (goal.at.After-place_of-2 k).After-place_of).key (holds (goal.at.After-place_of-2 k).After-place_of).start (holds (goal.at.After-place_of-2 k).After-place_of).is, long (goal.at.After-place_of-2 k).After-place_of)
 
-spelled : (k : After-read_u64) → decimal_u64 k.read_u64.result ≡ some (holds (goal.at.After-read_u64 k).After-place_of).key
+spelled : (k : After-read_u64) → optional_of k.read_u64.result ≡ some (holds (goal.at.After-read_u64 k).After-place_of).key
 spelled k =
     let size : at (goal.at.After-read_u64 k).After-place_of + k.place_of-2.result - at (goal.at.After-read_u64 k).After-place_of ≡ byte_place_of tab (line (goal.at.After-read_u64 k).After-place_of) = omega (arith, tab-at (goal.at.After-read_u64 k).After-place_of-2) in
     let same = sym (take-take (byte_place_of tab (line (goal.at.After-read_u64 k).After-place_of)) (byte_place_of newline (bytes (goal.at.After-read_u64 k).After-place_of)) (bytes (goal.at.After-read_u64 k).After-place_of) (omega (arith, tab-at (goal.at.After-read_u64 k).After-place_of-2, before-end (goal.at.After-read_u64 k).After-place_of-2, place (goal.at.After-read_u64 k).After-place_of))) in
     k.read_u64.ensures ∙ ap (λ (n : ℕ). read_decimal (take n (bytes (goal.at.After-read_u64 k).After-place_of))) size ∙ ap read_decimal same ∙ (known_key (line (goal.at.After-read_u64 k).After-place_of) (holds (goal.at.After-read_u64 k).After-place_of).key (holds (goal.at.After-read_u64 k).After-place_of).start (holds (goal.at.After-read_u64 k).After-place_of).is).0
 
 -- the text starts within the line
-short : (c : In-Read) → at (goal.at.In-Read c).After-place_of + c.place_of-2.result + 1 ≤ at (goal.at.In-Read c).After-place_of + c.place_of.result
-short c = omega (arith, before-end (goal.at.In-Read c).After-place_of-2)
+short : (c : In-Some) → at (goal.at.In-Some c).After-place_of + c.place_of-2.result + 1 ≤ at (goal.at.In-Some c).After-place_of + c.place_of.result
+short c = omega (arith, before-end (goal.at.In-Some c).After-place_of-2)
 
 pub overflow_sub-result : goal.overflow_sub-result
 overflow_sub-result c = short c
@@ -67,8 +67,8 @@ overflow_sub-result c = short c
 pub returns : goal.returns
 returns c =
     let h = holds (goal.at.returns c).After-place_of in
-    let told : some c.in-Read.key ≡ some h.key = sym (ap decimal_u64 c.in-Read.is) ∙ spelled (goal.at.returns c).After-read_u64 in
-    let key : c.in-Read.key ≡ h.key = cc in
+    let told : some c.in-Some.key ≡ some h.key = sym (ap optional_of c.in-Some.is) ∙ spelled (goal.at.returns c).After-read_u64 in
+    let key : c.in-Some.key ≡ h.key = cc in
     let starts : at (goal.at.returns c).After-place_of + c.place_of-2.result + 1 ≡ at (goal.at.returns c).After-place_of + h.start = omega (arith, tab-at (goal.at.returns c).After-place_of-2, (known_key (line (goal.at.returns c).After-place_of) h.key h.start h.is).1) in
     let ends : at (goal.at.returns c).After-place_of + c.place_of.result ≡ at (goal.at.returns c).After-place_of + length (line (goal.at.returns c).After-place_of) = ap (λ (n : ℕ). at (goal.at.returns c).After-place_of + n) (sym (long (goal.at.returns c).After-place_of)) in
     (λ i. line_ok (key i) (starts i) (ends i - starts i) (ends i + 1))
@@ -76,5 +76,5 @@ returns c =
 
 pub unreachable-requires : goal.unreachable-requires
 unreachable-requires c =
-    let told = sym (ap decimal_u64 c.in_default.is) ∙ spelled (goal.at.unreachable-requires c).After-read_u64 in
+    let told = sym (ap optional_of c.in_default.is) ∙ spelled (goal.at.unreachable-requires c).After-read_u64 in
     absurd (let z : ◌≡◌ {A = ℕ} 0 1 = cc in omega arith)
