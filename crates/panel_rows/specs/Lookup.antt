@@ -13,6 +13,10 @@ use Rattle.panel_rows.specs.declared.values.AvailabilityLookup.{AvailabilityLook
 abbrev pub no_value : ValueLookup
 no_value = record { found = false; mark = 0; kind = 0; quad = 0; signed = pos 0; unsigned = 0; text_len = 0; text = zeros text_bytes }
 
+-- a value of that mark whose kind is still to be set
+abbrev pub found_with : ℕ → ValueLookup
+found_with m = record { found = true; mark = m; kind = 0; quad = 0; signed = pos 0; unsigned = 0; text_len = 0; text = zeros text_bytes }
+
 -- the number of a quad state, as its canonical byte
 abbrev pub quad_number : ProjectionQuadState → ℕ
 quad_number states.N = 0

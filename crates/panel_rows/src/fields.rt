@@ -11,20 +11,14 @@ use crate::{
 pub fn key_part(row: &[u8], at: usize) -> &[u8]
     ensures { result.now ≡ take at row.now }
 {
-    if row.len() < at {
-        return row;
-    }
-    &row[0..at]
+    row.get(..at).unwrap_or(row)
 }
 
 // What stands from an offset on.
 pub fn value_part(row: &[u8], at: usize) -> &[u8]
     ensures { result.now ≡ drop at row.now }
 {
-    if row.len() < at {
-        return &row[..0];
-    }
-    &row[at..]
+    row.get(at..).unwrap_or(&[])
 }
 
 // The number of so many bytes from an offset on.
@@ -68,10 +62,7 @@ pub fn availability_mark(row: &[u8]) -> u64
 pub fn availability_byte(row: &[u8]) -> u8
     ensures { result ≡ availability_in row.now }
 {
-    if row.len() <= AVAILABILITY {
-        return 0;
-    }
-    row[AVAILABILITY]
+    row.get(AVAILABILITY).copied().unwrap_or(0)
 }
 
 pub fn entry_collection(row: &[u8]) -> u64

@@ -6,14 +6,15 @@ ghost use Rattle.spec_patch.specs.Fits.{Storable};
 ghost use Rattle.patch_part_writer.specs.Extent.{value_text, WithinTexts};
 ghost use Rattle.projection_patch.specs.Meaning.{value_of};
 ghost use Rattle.panel_rows.specs.Rows.{padded};
-ghost use Rattle.panel_rows.specs.Lookup.{quad_number, no_value, found_quad, found_value};
+ghost use Rattle.panel_rows.specs.Lookup.{no_value, found_with, found_value};
 
-use projection_patch::patch::{ProjectionPatchEdition, ProjectionPatchValue, ProjectionQuadState};
+use patch_part_writer::fields;
+use projection_patch::patch::{ProjectionPatchEdition, ProjectionPatchValue};
 use projection_patch::read_values;
 
 // A value with its mark, the id of the patch that last gave it, or none. The kind is that of canonical bytes: 1 quad,
 // 2 signed, 3 text, 4 unsigned, 5 score, whose number stands in unsigned.
-#[derive(Drop)]
+#[derive(Clone, Copy)]
 pub struct ValueLookup {
     pub found: bool,
     pub mark: u64,
@@ -26,7 +27,7 @@ pub struct ValueLookup {
 }
 
 // A node's availability as its canonical byte, with its mark, or none.
-#[derive(Drop)]
+#[derive(Clone, Copy)]
 pub struct AvailabilityLookup {
     pub found: bool,
     pub mark: u64,
@@ -48,63 +49,14 @@ pub fn no_value() -> ValueLookup
     }
 }
 
-fn quad_value(mark: u64, number: u8) -> ValueLookup
-    ensures { result ≡ found_quad mark number }
+// A value of that mark whose kind is still to be set.
+fn found(mark: u64) -> ValueLookup
+    ensures { result ≡ found_with mark }
 {
     ValueLookup {
         found: true,
         mark,
-        kind: 1,
-        quad: number,
-        signed: 0,
-        unsigned: 0,
-        text_len: 0,
-        text: [0u8; ProjectionPatchValue::TEXT_BYTES],
-    }
-}
-
-fn signed_value(mark: u64, z: i64) -> ValueLookup
-    ensures { result ≡ found_value mark (model.signed z) }
-{
-    ValueLookup {
-        found: true,
-        mark,
-        kind: 2,
-        quad: 0,
-        signed: z,
-        unsigned: 0,
-        text_len: 0,
-        text: [0u8; ProjectionPatchValue::TEXT_BYTES],
-    }
-}
-
-fn unsigned_value(mark: u64, x: u64) -> ValueLookup
-    ensures { result ≡ found_value mark (model.unsigned x) }
-{
-    ValueLookup {
-        found: true,
-        mark,
-        kind: 4,
-        quad: 0,
-        signed: 0,
-        unsigned: x,
-        text_len: 0,
-        text: [0u8; ProjectionPatchValue::TEXT_BYTES],
-    }
-}
-
-fn score_value(mark: u64, score: u8) -> ValueLookup
-    ensures { result ≡ found_value mark (model.score score) }
-{
-    ValueLookup {
-        found: true,
-        mark,
-        kind: 5,
-        quad: 0,
-        signed: 0,
-        unsigned: score as u64,
-        text_len: 0,
-        text: [0u8; ProjectionPatchValue::TEXT_BYTES],
+        ..no_value()
     }
 }
 
@@ -112,37 +64,16 @@ fn score_value(mark: u64, score: u8) -> ValueLookup
 fn text_value(row: &[u8], mark: u64, start: usize, len: usize) -> ValueLookup
     ensures { start + len ≤ length row.now → len ≤ text_bytes → result ≡ found_value mark (model.text (take len (drop start row.now))) }
 {
+    if ProjectionPatchValue::TEXT_BYTES < len || row.len() < len || row.len() - len < start {
+        return no_value();
+    }
     let mut text = [0u8; ProjectionPatchValue::TEXT_BYTES];
-    if ProjectionPatchValue::TEXT_BYTES < len {
-        return no_value();
-    }
-    if row.len() < len {
-        return no_value();
-    }
-    if row.len() - len < start {
-        return no_value();
-    }
     bytes_records::moves::copy(read_values::text_of(row, start, start + len), &mut text);
     ValueLookup {
-        found: true,
-        mark,
         kind: 3,
-        quad: 0,
-        signed: 0,
-        unsigned: 0,
         text_len: len,
         text,
-    }
-}
-
-fn quad_number(state: ProjectionQuadState) -> u8
-    ensures { result ≡ quad_number state }
-{
-    match state {
-        ProjectionQuadState::N => 0,
-        ProjectionQuadState::F => 1,
-        ProjectionQuadState::T => 2,
-        ProjectionQuadState::S => 3,
+        ..found(mark)
     }
 }
 
@@ -151,11 +82,27 @@ fn value_lookup(row: &[u8], mark: u64, value: ProjectionPatchValue) -> ValueLook
     ensures { WithinTexts row.now (value_text value) → result ≡ found_value mark (value_of row.now value) }
 {
     match value {
-        ProjectionPatchValue::Quad(state) => quad_value(mark, quad_number(state)),
-        ProjectionPatchValue::SignedScalar(z) => signed_value(mark, z),
-        ProjectionPatchValue::UnsignedScalar(x) => unsigned_value(mark, x),
+        ProjectionPatchValue::Quad(state) => ValueLookup {
+            kind: 1,
+            quad: fields::quad_byte(state),
+            ..found(mark)
+        },
+        ProjectionPatchValue::SignedScalar(signed) => ValueLookup {
+            kind: 2,
+            signed,
+            ..found(mark)
+        },
+        ProjectionPatchValue::UnsignedScalar(unsigned) => ValueLookup {
+            kind: 4,
+            unsigned,
+            ..found(mark)
+        },
         ProjectionPatchValue::Text { start, len } => text_value(row, mark, start, len),
-        ProjectionPatchValue::Score(score) => score_value(mark, score),
+        ProjectionPatchValue::Score(score) => ValueLookup {
+            kind: 5,
+            unsigned: u64::from(score),
+            ..found(mark)
+        },
     }
 }
 

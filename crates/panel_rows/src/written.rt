@@ -9,10 +9,7 @@ pub fn write_row(row: &mut [u8], key: &[u8], value: &[u8]) -> bool
     ensures made { row.new ≡ written_row key.now value.now row.old }
 {
     let at = key.len();
-    if row.len() < at {
-        return false;
-    }
-    if row.len() - at < value.len() {
+    if row.len() < at || row.len() - at < value.len() {
         return false;
     }
     let end = at + value.len();

@@ -72,7 +72,7 @@ pub fn store_before(out: &mut [u8], at: usize, before: Option<CollectionKey>)
     }
 }
 
-fn quad_byte(state: ProjectionQuadState) -> u8
+pub fn quad_byte(state: ProjectionQuadState) -> u8
     ensures { result ≡ quad_byte (quad_of state) }
 {
     match state {

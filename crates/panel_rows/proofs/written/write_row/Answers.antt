@@ -1,15 +1,16 @@
 -- `written::write_row` meets its contract: one copy behind the other, and zeros behind both.
 use native.Mathlib.Omega.{arith}
-use borrow.Author.Rules.{rules}
 use Rattle.panel_rows.proofs.Copies.{row_left, row_made}
 use Rattle.panel_rows.proofs.written.write_row.Goals as goal
+use Rattle.panel_rows.proofs.written.write_row.Goals.{then-row-at-via-then-row-at, then-row-at-via-else-row-at+then-row-at-2}
 
-pub returns-then-row-at : goal.returns-then-row-at
-returns-then-row-at c = let all = row_left c.args.key.now c.args.value.now c.args.row.now (omega arith) in record { told = all.0; made = all.1 }
+pub returns-then-row-at-clause-made : goal.returns-then-row-at-clause-made
+returns-then-row-at-clause-made c =
+    elim c.then-row-at.branch [
+      | then-row-at-via-then-row-at w ↦ (row_left c.args.key.now c.args.value.now c.args.row.now (omega arith)).1
+      | then-row-at-via-else-row-at+then-row-at-2 w ↦ (row_left c.args.key.now c.args.value.now c.args.row.now (omega arith)).1
+    ]
 
-pub returns-then-row-at-2 : goal.returns-then-row-at-2
-returns-then-row-at-2 c = let all = row_left c.args.key.now c.args.value.now c.args.row.now (omega arith) in record { told = all.0; made = all.1 }
-
-pub returns : goal.returns
-returns c =
-    let all = row_made c.args.key.now c.args.value.now c.args.row.now (omega arith) c.copy.ensures c.copy-2.ensures c.clear.ensures in record { told = all.0; made = all.1 }
+pub returns-clause-made : goal.returns-clause-made
+returns-clause-made c =
+    (row_made c.args.key.now c.args.value.now c.args.row.now (omega arith) c.copy.ensures c.copy-2.ensures c.clear.ensures).1
