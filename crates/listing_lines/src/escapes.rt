@@ -3,11 +3,10 @@ ghost use Rattle.std.specs.Prelude.{[], ◌∷◌};
 ghost use Rattle.spec_listing.specs.Escapes.{backslash, escaped_byte, escaped};
 ghost use Rattle.bytes_printer.specs.Prints.{Prints, Within};
 
-
 fn print_escape(out: &mut [u8], at: Option<usize>, letter: u8) -> Option<usize>
     ensures { Prints out.old at (backslash ∷ letter ∷ []) out.new result }
 {
-    let first = bytes_printer::print_byte(out, at, 92);
+    let first = bytes_printer::print_byte(out, at, b'\\');
     bytes_printer::print_byte(out, first, letter)
 }
 
@@ -15,19 +14,13 @@ fn print_escape(out: &mut [u8], at: Option<usize>, letter: u8) -> Option<usize>
 fn print_text_byte(out: &mut [u8], at: Option<usize>, byte: u8) -> Option<usize>
     ensures { Prints out.old at (escaped_byte byte) out.new result }
 {
-    if byte == 92 {
-        return print_escape(out, at, 92);
+    match byte {
+        b'\\' => print_escape(out, at, b'\\'),
+        b'\t' => print_escape(out, at, b't'),
+        b'\n' => print_escape(out, at, b'n'),
+        b'\r' => print_escape(out, at, b'r'),
+        _ => bytes_printer::print_byte(out, at, byte),
     }
-    if byte == 9 {
-        return print_escape(out, at, 116);
-    }
-    if byte == 10 {
-        return print_escape(out, at, 110);
-    }
-    if byte == 13 {
-        return print_escape(out, at, 114);
-    }
-    bytes_printer::print_byte(out, at, byte)
 }
 
 pub(crate) fn print_escaped(out: &mut [u8], from: Option<usize>, text: &[u8]) -> Option<usize>
@@ -35,10 +28,8 @@ pub(crate) fn print_escaped(out: &mut [u8], from: Option<usize>, text: &[u8]) ->
         → Prints out.old from (escaped text.now) out.new result }
 {
     let mut at = from;
-    let mut i: usize = 0;
-    while i < text.len() {
-        at = print_text_byte(out, at, text[i]);
-        i += 1;
+    for &byte in text {
+        at = print_text_byte(out, at, byte);
     }
     at
 }

@@ -4,7 +4,7 @@
 mod escapes;
 pub mod tables;
 
-ghost use Rattle.std.specs.Prelude.{◌≡◌, [], ◌∷◌, min, take};
+ghost use Rattle.std.specs.Prelude.{◌≡◌, [], ◌∷◌, take};
 ghost use Rattle.spec_projection.specs.Projection.{Binding, NodeAvailability, Entry};
 ghost use Rattle.spec_projection.specs.Valid.{FitsBinding, FitsNodeAvailability, FitsEntry};
 ghost use Rattle.spec_decimal.specs.Decimal.{decimal};
@@ -41,28 +41,17 @@ fn print_kind_number(out: &mut [u8], at: Option<usize>, letter: u8, n: u64) -> O
 pub fn print_value(out: &mut [u8], at: Option<usize>, value: ValueLookup) -> Option<usize>
     ensures { Prints out.old at (fields (lookup_fields value)) out.new result }
 {
-    let kind = value.kind;
-    if kind == 1 {
-        return print_kind_number(out, at, 81, value.quad as u64);
+    match value.kind {
+        1 => print_kind_number(out, at, b'Q', value.quad as u64),
+        2 => {
+            let letter = print_letter(out, at, b'S');
+            let number = bytes_printer::print_field_i64(out, letter, value.signed);
+            bytes_printer::print_newline(out, number)
+        }
+        4 => print_kind_number(out, at, b'U', value.unsigned),
+        5 => print_kind_number(out, at, b'M', value.unsigned),
+        _ => print_text(out, at, value),
     }
-    if kind == 2 {
-        let letter = print_letter(out, at, 83);
-        let number = bytes_printer::print_field_i64(out, letter, value.signed);
-        return bytes_printer::print_newline(out, number);
-    }
-    if kind == 4 {
-        return print_kind_number(out, at, 85, value.unsigned);
-    }
-    if kind == 5 {
-        return print_kind_number(out, at, 77, value.unsigned);
-    }
-    print_text(out, at, value)
-}
-
-fn at_most(n: usize, most: usize) -> usize
-    ensures { result ≡ min n most }
-{
-    if n < most { n } else { most }
 }
 
 // The kind T, the escaped text of a lookup and the end of the line.
@@ -70,8 +59,8 @@ fn print_text(out: &mut [u8], at: Option<usize>, value: ValueLookup) -> Option<u
     ensures { Prints out.old at (fields ((84 ∷ []) ∷ escaped (take value.text_len value.text) ∷ [])) out.new result }
 {
     let text = value.text;
-    let len = at_most(value.text_len, ProjectionPatchValue::TEXT_BYTES);
-    let letter = print_letter(out, at, 84);
+    let len = value.text_len.min(ProjectionPatchValue::TEXT_BYTES);
+    let letter = print_letter(out, at, b'T');
     let tab = bytes_printer::print_byte(out, letter, 9);
     let bytes = crate::escapes::print_escaped(out, tab, read_values::text_of(&text, 0, len));
     bytes_printer::print_newline(out, bytes)
@@ -110,7 +99,7 @@ fn print_binding(out: &mut [u8], at: Option<usize>, row: &[u8]) -> Option<usize>
     let node = row_fields::binding_node(row);
     let slot = row_fields::binding_slot(row);
     let value = panel_rows::values::stored_value(row, panel_rows::BINDING_VALUE, 0);
-    print_record(out, at, 66, node, slot, value)
+    print_record(out, at, b'B', node, slot, value)
 }
 
 fn print_availability(out: &mut [u8], at: Option<usize>, row: &[u8]) -> Option<usize>
@@ -119,7 +108,7 @@ fn print_availability(out: &mut [u8], at: Option<usize>, row: &[u8]) -> Option<u
 {
     let node = row_fields::availability_node(row);
     let availability = row_fields::availability_byte(row);
-    let start = bytes_printer::print_byte(out, at, 65);
+    let start = bytes_printer::print_byte(out, at, b'A');
     let first = bytes_printer::print_field_u64(out, start, node);
     let second = bytes_printer::print_field_u64(out, first, availability as u64);
     bytes_printer::print_newline(out, second)
@@ -132,7 +121,7 @@ fn print_entry(out: &mut [u8], at: Option<usize>, row: &[u8]) -> Option<usize>
     let collection = row_fields::entry_collection(row);
     let key = row_fields::entry_key(row);
     let value = panel_rows::values::stored_value(row, panel_rows::ENTRY_VALUE, 0);
-    print_record(out, at, 67, collection, key, value)
+    print_record(out, at, b'C', collection, key, value)
 }
 
 // The three kinds of rows.
@@ -143,7 +132,12 @@ pub enum RowKind {
     Entry,
 }
 
-pub(crate) fn print_row(out: &mut [u8], at: Option<usize>, kind: RowKind, row: &[u8]) -> Option<usize>
+pub(crate) fn print_row(
+    out: &mut [u8],
+    at: Option<usize>,
+    kind: RowKind,
+    row: &[u8],
+) -> Option<usize>
     ensures { (x : Element kind) → FitsRow kind x → row.now ≡ row_of kind x
         → Prints out.old at (line_of_row kind x) out.new result }
 {

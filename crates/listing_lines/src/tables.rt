@@ -33,8 +33,14 @@ fn row_width(kind: RowKind) -> usize
     }
 }
 
-// The line of each row of a table. A table that is too short for its count answers NoRoom.
-fn print_rows(out: &mut [u8], from: Option<usize>, kind: RowKind, table: &[u8], count: usize) -> Option<usize>
+// The line of each row of a table. A table that is too short for its count answers None.
+fn print_rows(
+    out: &mut [u8],
+    from: Option<usize>,
+    kind: RowKind,
+    table: &[u8],
+    count: usize,
+) -> Option<usize>
     ensures { (xs : List (Element kind)) → All (FitsRow kind) xs → HoldsRows (width_of kind) count table.now (map (row_of kind) xs) → Within out.old from
         → Prints out.old from (flat_map (line_of_row kind) xs) out.new result }
 {
@@ -43,11 +49,9 @@ fn print_rows(out: &mut [u8], from: Option<usize>, kind: RowKind, table: &[u8], 
         return None;
     }
     let mut at = from;
-    let mut i: usize = 0;
-    while i < count {
+    for i in 0..count {
         let row = bytes_records::record_at(table, width, count, i);
         at = crate::print_row(out, at, kind, row);
-        i += 1;
     }
     at
 }
@@ -84,7 +88,7 @@ pub fn print_tables(
         → Prints out.old at (projection_lines p) out.new result }
 {
     let count = record_count(counts);
-    let head = crate::print_number_line(out, at, 80, count);
+    let head = crate::print_number_line(out, at, b'P', count);
     let first = print_rows(out, head, RowKind::Binding, bindings, counts.bindings);
     let second = print_rows(
         out,
@@ -97,7 +101,11 @@ pub fn print_tables(
 }
 
 // The listing of what a state stores.
-pub fn print_projection(out: &mut [u8], at: Option<usize>, state: LocalProjectionState) -> Option<usize>
+pub fn print_projection(
+    out: &mut [u8],
+    at: Option<usize>,
+    state: LocalProjectionState,
+) -> Option<usize>
     ensures { (p : Projection) → Stores state p → Prints out.old at (projection_lines p) out.new result }
 {
     let counts = state.counts;

@@ -1,6 +1,5 @@
 -- `listing_lines::print_availability` meets its contract: the row's node and its byte in a line.
 use mathlib.Core.Path.{ap, ◌∙◌}
-use borrow.Author.Rules.{rules}
 use Rattle.spec_listing.specs.Listing.{fields, availability_line}
 use Rattle.bytes_printer.proofs.PrintsLaws.{◌⨾◌, prints_same}
 use Rattle.panel_rows.specs.Rows.{node_in, availability_in}

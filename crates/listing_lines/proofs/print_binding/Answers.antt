@@ -1,6 +1,5 @@
 -- `listing_lines::print_binding` meets its contract: the row's numbers and its value in a line.
 use mathlib.Core.Path.{ap, ◌∙◌}
-use borrow.Author.Rules.{rules}
 use lib.ListN.{drop}
 use Rattle.panel_rows.specs.Rows.{binding_value_at, node_in, slot_in}
 use Rattle.panel_rows.specs.RowsLaws.{binding_behind, binding_node, binding_slot}

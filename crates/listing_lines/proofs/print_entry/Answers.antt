@@ -1,6 +1,5 @@
 -- `listing_lines::print_entry` meets its contract: the row's numbers and its value in a line.
 use mathlib.Core.Path.{ap, ◌∙◌}
-use borrow.Author.Rules.{rules}
 use lib.ListN.{drop}
 use Rattle.panel_rows.specs.Rows.{entry_value_at, collection_in, key_in}
 use Rattle.panel_rows.specs.RowsLaws.{entry_behind, entry_collection, entry_key}

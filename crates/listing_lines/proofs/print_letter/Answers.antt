@@ -1,6 +1,5 @@
 -- `listing_lines::print_letter` meets its contract: a tab and the letter.
 use Rattle.bytes_printer.proofs.PrintsLaws.{◌⨾◌}
-use borrow.Author.Rules.{rules}
 use Rattle.listing_lines.proofs.print_letter.Goals as goal
 
 pub returns : goal.returns

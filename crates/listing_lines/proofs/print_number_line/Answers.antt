@@ -1,5 +1,4 @@
 -- `listing_lines::print_number_line` meets its contract: the letter, one field and the end of the line.
-use borrow.Author.Rules.{rules}
 use Rattle.spec_listing.specs.Listing.{fields}
 use Rattle.bytes_printer.proofs.PrintsLaws.{◌⨾◌}
 use Rattle.listing_lines.proofs.print_number_line.Goals as goal

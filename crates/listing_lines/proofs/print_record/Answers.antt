@@ -1,7 +1,6 @@
 -- `listing_lines::print_record` meets its contract: the letter, two fields and the value.
 use Rattle.spec_listing.specs.Listing.{fields}
 use Rattle.bytes_printer.proofs.PrintsLaws.{◌⨾◌}
-use borrow.Author.Rules.{rules}
 use Rattle.listing_lines.proofs.print_record.Goals as goal
 
 pub returns : goal.returns

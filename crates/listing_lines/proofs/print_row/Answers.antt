@@ -1,6 +1,5 @@
 -- `listing_lines::print_row` meets its contract: each kind has its own line.
 use Rattle.listing_lines.proofs.Lines.{kind_told}
-use borrow.Author.Rules.{rules}
 use Rattle.listing_lines.proofs.print_row.Goals as goal
 
 pub returns-in-Binding : goal.returns-in-Binding

@@ -19,7 +19,7 @@ long c = search rules
 pub returns : goal.returns
 unfolding fields
 returns c =
-    let same = ap (λ (n : ℕ). take (n - 0) c.args.value.text) c.at_most-len.ensures ∙ front c.args.value.text c.args.value.text_len text_bytes (long (goal.at.returns c).Start) in
-    let lent = c.text_of.ensures ∙ sym (just_there c.args.value.text 0 c.at_most-len.result (omega (arith, long (goal.at.returns c).Start, c.at_most-len.ensures))) ∙ same in
+    let same = ap (λ (n : ℕ). take (n - 0) c.args.value.text) c.min-len.ensures ∙ front c.args.value.text c.args.value.text_len text_bytes (long (goal.at.returns c).Start) in
+    let lent = c.text_of.ensures ∙ sym (just_there c.args.value.text 0 c.min-len.result (omega (arith, long (goal.at.returns c).Start, c.min-len.ensures))) ∙ same in
     let escapes = prints_same (ap escaped lent) (c.print_escaped-bytes.ensures (ends_within c.print_byte-tab.ensures)) in
     c.print_letter-letter.ensures ⨾ c.print_byte-tab.ensures ⨾ escapes ⨾ c.print_newline.ensures

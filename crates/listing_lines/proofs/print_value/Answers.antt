@@ -4,7 +4,7 @@ use lib.IntN.{ℤ}
 use mathlib.Core.List.{[], ◌∷◌}
 use mir.Syntax.{w64}
 use mir.Facts.{to_z-of_z}
-use borrow.Author.Rules.{rules, sfits_of}
+use borrow.Author.Rules.{rules}
 use Rattle.spec_decimal.specs.Decimal.{signed_decimal}
 use Rattle.spec_listing.specs.Listing.{fields}
 use Rattle.bytes_printer.proofs.PrintsLaws.{◌⨾◌, prints_same}
@@ -12,24 +12,24 @@ use Rattle.listing_lines.specs.LookupFields.{quad_fields, signed_fields, unsigne
 use borrow.Author.Rules.{rules}
 use Rattle.listing_lines.proofs.print_value.Goals as goal
 
-pub returns-then-kind-eq1 : goal.returns-then-kind-eq1
-returns-then-kind-eq1 c =
-    prints_same (ap fields (sym (quad_fields _ c.if-kind-eq1.true))) c.print_kind_number.ensures
+pub returns-in-1 : goal.returns-in-1
+returns-in-1 c =
+    prints_same (ap fields (sym (quad_fields _ c.in-1.is))) c.print_kind_number.ensures
 
-pub returns-then-kind-eq2 : goal.returns-then-kind-eq2
+pub returns-in-2 : goal.returns-in-2
 unfolding fields
-returns-then-kind-eq2 c =
+returns-in-2 c =
     let same = to_z-of_z {w = w64} (search rules) in
-    prints_same (ap (λ (y : ℤ). fields ((83 ∷ []) ∷ signed_decimal y ∷ [])) same ∙ ap fields (sym (signed_fields _ c.if-kind-eq2.true))) (c.print_letter-letter.ensures ⨾ c.print_field_i64-number.ensures ⨾ c.print_newline.ensures)
+    prints_same (ap (λ (y : ℤ). fields ((83 ∷ []) ∷ signed_decimal y ∷ [])) same ∙ ap fields (sym (signed_fields _ c.in-2.is))) (c.print_letter-letter.ensures ⨾ c.print_field_i64-number.ensures ⨾ c.print_newline.ensures)
 
-pub returns-then-kind-eq4 : goal.returns-then-kind-eq4
-returns-then-kind-eq4 c =
-    prints_same (ap fields (sym (unsigned_fields _ c.if-kind-eq4.true))) c.print_kind_number-then-kind-eq4.ensures
+pub returns-in-4 : goal.returns-in-4
+returns-in-4 c =
+    prints_same (ap fields (sym (unsigned_fields _ c.in-4.is))) c.print_kind_number-in-4.ensures
 
-pub returns-then-kind-eq5 : goal.returns-then-kind-eq5
-returns-then-kind-eq5 c =
-    prints_same (ap fields (sym (score_fields _ c.if-kind-eq5.true))) c.print_kind_number-then-kind-eq5.ensures
+pub returns-in-5 : goal.returns-in-5
+returns-in-5 c =
+    prints_same (ap fields (sym (score_fields _ c.in-5.is))) c.print_kind_number-in-5.ensures
 
-pub returns : goal.returns
-returns c =
-    prints_same (ap fields (sym (text_fields _ c.if-kind-eq1.false c.if-kind-eq2.false c.if-kind-eq4.false c.if-kind-eq5.false))) c.print_text.ensures
+pub returns-in_default : goal.returns-in_default
+returns-in_default c =
+    prints_same (ap fields (sym (text_fields _ (search rules) (search rules) (search rules) (search rules)))) c.print_text.ensures

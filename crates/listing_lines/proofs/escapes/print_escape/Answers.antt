@@ -1,5 +1,4 @@
 -- `listing_lines::escapes::print_escape` meets its contract: a backslash and the letter.
-use borrow.Author.Rules.{rules}
 use Rattle.bytes_printer.proofs.PrintsLaws.{◌⨾◌}
 use Rattle.listing_lines.proofs.escapes.print_escape.Goals as goal
 

@@ -1,26 +1,16 @@
--- `listing_lines::escapes::print_escaped` meets its contract. The invariant: the first i bytes are printed escaped. The measure is the bytes left.
-use Prim.Native.Nat.{◌-◌}
-use mathlib.Core.Path.{◌≡◌, refl}
-use mathlib.Core.List.{flat_map}
+-- `listing_lines::escapes::print_escaped` meets its contract. The invariant: the bytes so far are printed escaped.
 use native.Mathlib.Omega.{arith}
-use borrow.Author.Rules.{rules}
-use lib.ListN.{length, take}
 use Rattle.spec_listing.specs.Escapes.{escaped_byte, escaped}
-use Rattle.bytes_printer.specs.Prints.{Prints, Within}
 use Rattle.bytes_printer.proofs.PrintsLaws.{lines_start, lines_turn, lines_end}
 use Rattle.listing_lines.proofs.escapes.print_escaped.Goals as goal
 
-pub loop-i-init : goal.loop-i-init
-loop-i-init c = (refl, λ w. lines_start escaped_byte c.args.text.now w)
+pub loop-byte-init : goal.loop-byte-init
+loop-byte-init c = λ w. lines_start escaped_byte c.args.text.now w
 
-pub loop-i-preserved : goal.loop-i-preserved
-loop-i-preserved c =
-    (search rules, λ w. lines_turn escaped_byte c.args.text.now c.loop-i.i 0 (search rules) (c.loop-i.invariant.1 w) c.print_text_byte-at.ensures)
-
-pub shape_of-out : goal.shape_of-out
-shape_of-out c = c.loop-i.invariant.0
+pub loop-byte-preserved : goal.loop-byte-preserved
+loop-byte-preserved c =
+    λ w. lines_turn escaped_byte c.args.text.now c.loop-byte.byte-index 0 (omega arith) (c.loop-byte.invariant w) c.print_text_byte-at.ensures
 
 pub returns : goal.returns
 unfolding escaped
-returns c =
-    λ w. lines_end escaped_byte c.args.text.now c.loop-i.i (omega arith) (c.loop-i.invariant.1 w)
+returns c = λ w. lines_end escaped_byte c.args.text.now c.loop-byte.byte-index (omega arith) (c.loop-byte.invariant w)

@@ -1,5 +1,4 @@
 -- `listing_lines::tables::print_projection` meets its contract: the state's tables are printed.
-use borrow.Author.Rules.{rules}
 use Rattle.listing_lines.proofs.tables.print_projection.Goals as goal
 
 pub returns : goal.returns
