@@ -3,8 +3,6 @@ use crate::sessions::SetCounts;
 use crate::{sessions, sums};
 use local_projection_state::LocalProjectionState;
 use projection_patch::patch::ProjectionPatchEdition;
-use session_lent::batch::LentBatch;
-use session_lent::creation::LentCreation;
 use session_lent::{batch, creation, head};
 
 // Two numbers for each pair of a node and a slot.
@@ -64,8 +62,8 @@ fn send<'a>(
         plan_entries,
     );
     match answer {
-        LentBatch::Answered(result) => sessions::raised(number, result),
-        LentBatch::NoSession => number,
+        Some(result) => sessions::raised(number, result),
+        None => number,
     }
 }
 
@@ -224,7 +222,7 @@ fn start(
         first_entries,
         first_lengths,
     );
-    let LentCreation::Created = creation else {
+    let Ok(()) = creation else {
         return 0;
     };
     let filled = sessions::counted(fill);

@@ -1,4 +1,5 @@
 -- What the numbers of the exported answers stand for.
+use Rattle.std.specs.Prelude.{Option, Some, None, Result, Ok, Err}
 use Rattle.std.specs.Prelude.{ℕ}
 use Rattle.spec_session.specs.Session.{creation_number, too_many_anchors}
 use Rattle.spec_session.specs.Lifecycle.{Disposition, applied, no_change, rejected, LifecycleAnswer}
@@ -6,12 +7,10 @@ use Rattle.spec_session.specs.Batch.{BatchAnswer}
 use Rattle.session_lifecycle.specs.Meaning.{answer_of}
 use Rattle.session_steps.specs.Answers.{batch_answer_of}
 use Rattle.session_lent.specs.Head.{lifecycle_number, cursor_kind, cursor_number}
-use Rattle.session_lent.specs.declared.batch.LentBatch.{LentBatch}
-use Rattle.session_lent.specs.declared.batch.LentBatch.TheVariants as batches
-use Rattle.session_lent.specs.declared.creation.LentCreation.{LentCreation}
-use Rattle.session_lent.specs.declared.creation.LentCreation.TheVariants as creation
-use Rattle.session_lent.specs.declared.lifecycle.LentTransition.{LentTransition}
-use Rattle.session_lent.specs.declared.lifecycle.LentTransition.TheVariants as transition
+use Rattle.session_steps.specs.declared.answers.ProjectionPatchApplicationResult.{ProjectionPatchApplicationResult}
+use Rattle.session_lent.specs.declared.creation.LentCreationRefusal.{LentCreationRefusal}
+use Rattle.session_lent.specs.declared.creation.LentCreationRefusal.TheVariants as creation
+use Rattle.session_lifecycle.specs.declared.lifecycle.ShellTransitionResult.{ShellTransitionResult}
 use Rattle.c_answers.specs.declared.answers.GeysertrayAnswer.{GeysertrayAnswer}
 use Rattle.c_answers.specs.declared.answers.GeysertrayLifecycle.{GeysertrayLifecycle}
 
@@ -55,15 +54,15 @@ no_step d = record { disposition = d; number = 0; stage = 0; logical = 0; emitte
 
 -- ---- what the calls below answer
 
-abbrev pub batch_told : LentBatch → GeysertrayAnswer
-batch_told (batches.Answered r) = answer_to (batch_answer_of r)
-batch_told batches.NoSession = session_absent 3
+abbrev pub batch_told : Option ProjectionPatchApplicationResult → GeysertrayAnswer
+batch_told (Some r) = answer_to (batch_answer_of r)
+batch_told None = session_absent 3
 
-abbrev pub step_told : LentTransition → GeysertrayLifecycle
-step_told (transition.Answered r) = lifecycle_number_to (answer_of r)
-step_told transition.NoSession = no_step 3
+abbrev pub step_told : Option ShellTransitionResult → GeysertrayLifecycle
+step_told (Some r) = lifecycle_number_to (answer_of r)
+step_told None = no_step 3
 
-abbrev pub creation_told : LentCreation → ℕ
-creation_told creation.Created = 0
-creation_told creation.AnchorsOverCapacity = creation_number too_many_anchors
-creation_told creation.NoSession = 3
+abbrev pub creation_told : Result (Unit {0}) LentCreationRefusal → ℕ
+creation_told (Ok u) = 0
+creation_told (Err creation.AnchorsOverCapacity) = creation_number too_many_anchors
+creation_told (Err creation.NoSession) = 3

@@ -1,4 +1,5 @@
 -- What the calls that count or write answer, as three numbers.
+use Rattle.std.specs.Prelude.{Option, Some, None}
 use Rattle.std.specs.Prelude.{ℕ, Result, Ok, Err}
 use Rattle.spec_patch.specs.Write.{write_number}
 use Rattle.spec_page.specs.Page.{page_number}
@@ -12,14 +13,6 @@ use Rattle.panel_page.specs.declared.PageAnswer.TheVariants as page-answer
 use Rattle.panel_print.specs.Answers.{print_number}
 use Rattle.panel_print.specs.declared.PrintAnswer.{PrintAnswer}
 use Rattle.panel_print.specs.declared.PrintAnswer.TheVariants as print-answer
-use Rattle.session_lent_views.specs.declared.lookups.LentCount.{LentCount}
-use Rattle.session_lent_views.specs.declared.lookups.LentCount.TheVariants as counting
-use Rattle.session_lent_views.specs.declared.listing.LentListing.{LentListing}
-use Rattle.session_lent_views.specs.declared.listing.LentListing.TheVariants as listing
-use Rattle.session_lent_views.specs.declared.page.LentPage.{LentPage}
-use Rattle.session_lent_views.specs.declared.page.LentPage.TheVariants as paged
-use Rattle.session_lent_views.specs.declared.print.LentPrint.{LentPrint}
-use Rattle.session_lent_views.specs.declared.print.LentPrint.TheVariants as print
 use Rattle.patch_import.specs.Answers.{import_refusal_of}
 use Rattle.patch_import.specs.declared.answer.ImportRefusal.{ImportRefusal}
 use Rattle.patch_converter.specs.Answers.{conversion_refusal_of}
@@ -40,35 +33,35 @@ not_counted d = record { disposition = d; number = 0; count = 0 }
 
 -- ---- what a panel holds
 
-abbrev pub count_told : LentCount → GeysertrayCount
-count_told (counting.Answered n) = counted_to n
-count_told counting.NoSession = not_counted 3
+abbrev pub count_told : Option ℕ → GeysertrayCount
+count_told (Some n) = counted_to n
+count_told None = not_counted 3
 
 -- bytes written, or 14
 abbrev pub written_to : Result ℕ WriteRefusal → GeysertrayCount
 written_to (Ok n) = counted_to n
 written_to (Err f) = refused_to (write_number (write_refusal_of f))
 
-abbrev pub listing_told : LentListing → GeysertrayCount
-listing_told (listing.Answered w) = written_to w
-listing_told listing.NoSession = not_counted 3
+abbrev pub listing_told : Option (Result ℕ WriteRefusal) → GeysertrayCount
+listing_told (Some w) = written_to w
+listing_told None = not_counted 3
 
 abbrev pub print_to : PrintAnswer → GeysertrayCount
 print_to (print-answer.Wrote n) = counted_to n
 print_to (print-answer.Refused f) = refused_to (print_number f)
 
-abbrev pub print_told : LentPrint → GeysertrayCount
-print_told (print.Answered a) = print_to a
-print_told print.NoSession = not_counted 3
+abbrev pub print_told : Option PrintAnswer → GeysertrayCount
+print_told (Some a) = print_to a
+print_told None = not_counted 3
 
 -- rows written, or 16 or 14
 abbrev pub page_to : PageAnswer → GeysertrayCount
 page_to (page-answer.Answered n) = counted_to n
 page_to (page-answer.Refused f) = refused_to (page_number (page.page_refusal_of f))
 
-abbrev pub page_told : LentPage → GeysertrayCount
-page_told (paged.Answered a) = page_to a
-page_told paged.NoSession = not_counted 3
+abbrev pub page_told : Option PageAnswer → GeysertrayCount
+page_told (Some a) = page_to a
+page_told None = not_counted 3
 
 -- ---- sets that are written
 

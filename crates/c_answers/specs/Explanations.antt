@@ -1,4 +1,5 @@
 -- What the call that explains a batch answers, as numbers: the rule has 01's number and one of its own, from 1 to 31 in the order of the words below.
+use Rattle.std.specs.Prelude.{Option, Some, None}
 use Rattle.std.specs.Prelude.{ℕ, ◌-◌, ◌≡◌, refl, List, [], ◌∷◌, get_or}
 use Rattle.std.proofs.Math.Option.{Option, none, some}
 use Rattle.spec_listing.specs.Ascii.{ascii}
@@ -9,8 +10,7 @@ use Rattle.spec_explain.specs.Reason as model
 use Rattle.spec_explain.specs.Reason.{reason_number, reason_word}
 use Rattle.spec_explain.specs.Explain as explaining
 use Rattle.session_explain.specs.Meaning.{explanation_of}
-use Rattle.session_lent_explain.specs.declared.LentExplanation.{LentExplanation}
-use Rattle.session_lent_explain.specs.declared.LentExplanation.TheVariants as lent
+use Rattle.session_explain.specs.declared.reasons.BatchExplanation.{BatchExplanation}
 use Rattle.c_answers.specs.declared.figures.GeysertrayRulePlace.{GeysertrayRulePlace}
 use Rattle.c_answers.specs.declared.figures.GeysertrayFigures.{GeysertrayFigures}
 use Rattle.c_answers.specs.declared.explanations.GeysertrayExplanation.{GeysertrayExplanation}
@@ -160,9 +160,9 @@ explanation_told explaining.no_reason = not_explained 0
 explanation_told explaining.withheld = not_explained 2
 explanation_told (explaining.given r) = record { disposition = 2; number = reason_number r; rule = rule_number r; place = rule_place r; figures = rule_figures r }
 
-abbrev pub lent_explanation_told : LentExplanation → GeysertrayExplanation
-lent_explanation_told (lent.Answered x) = explanation_told (explanation_of x)
-lent_explanation_told lent.NoSession = not_explained 3
+abbrev pub lent_explanation_told : Option BatchExplanation → GeysertrayExplanation
+lent_explanation_told (Some x) = explanation_told (explanation_of x)
+lent_explanation_told None = not_explained 3
 
 -- ---- the number of a rule tells its word
 

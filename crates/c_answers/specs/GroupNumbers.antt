@@ -1,5 +1,5 @@
 -- A group by numbers: seven for each batch, and what its call answers.
-use Rattle.std.specs.Prelude.{ℕ, zero, suc, ◌*◌, ◌/◌, ◌%◌, min, Bool, true, ◌&&◌, List, [], ◌∷◌, ◌++◌, eqb, length, get_or, take, drop}
+use Rattle.std.specs.Prelude.{ℕ, zero, suc, ◌*◌, ◌/◌, ◌%◌, min, Bool, true, ◌&&◌, List, Option, Some, None, [], ◌∷◌, ◌++◌, eqb, length, get_or, take, drop}
 use Rattle.spec_session.specs.Session.{Cursor}
 use Rattle.spec_group.specs.Group as model
 use Rattle.spec_group.specs.Group.{group_batches, group_number}
@@ -10,8 +10,6 @@ use Rattle.session_group.specs.declared.GroupAnswer.{GroupAnswer}
 use Rattle.session_group.specs.declared.GroupAnswer.TheVariants.{NotAGroup, Taken, RefusedAt}
 use Rattle.session_lent_group.specs.declared.places.LentHalf.{LentHalf}
 use Rattle.session_lent_group.specs.declared.places.LentHalf.TheVariants.{Own, First, Second}
-use Rattle.session_lent_group.specs.declared.group.LentGroup.{LentGroup}
-use Rattle.session_lent_group.specs.declared.group.LentGroup.TheVariants as lent
 use Rattle.c_answers.specs.declared.answers.GeysertrayAnswer.{GeysertrayAnswer}
 use Rattle.c_answers.specs.declared.groups.GeysertrayGroupAnswer.{GeysertrayGroupAnswer}
 use Rattle.c_answers.specs.Answers.{answer_to, session_absent}
@@ -85,6 +83,6 @@ group_to half NotAGroup = group_with 0 0 half not_a_group_to
 group_to half (Taken n c) = group_with n 0 half (taken_to (cursor_of c))
 group_to half (RefusedAt i a) = group_with 0 i half (answer_to (batch_answer_of a))
 
-abbrev pub group_told : LentGroup → GeysertrayGroupAnswer
-group_told (lent.Answered answer half) = group_to (half_number half) answer
-group_told lent.NoSession = group_absent 3
+abbrev pub group_told : Option (GroupAnswer × LentHalf) → GeysertrayGroupAnswer
+group_told (Some (answer, half)) = group_to (half_number half) answer
+group_told None = group_absent 3

@@ -1,11 +1,11 @@
 -- What the look-ups of a lent session answer, as numbers and the bytes of a text.
+use Rattle.std.specs.Prelude.{Option, Some, None}
 use Rattle.std.specs.Prelude.{ℕ, Bool, true, false}
+use Rattle.panel_rows.specs.Lookup.{no_value}
 use Rattle.panel_rows.specs.declared.values.ValueLookup.{ValueLookup}
 use Rattle.panel_page.specs.declared.rows.PageLookup.{PageLookup}
-use Rattle.session_lent_views.specs.declared.lookups.LentValue.{LentValue}
-use Rattle.session_lent_views.specs.declared.lookups.LentEntry.{LentEntry}
-use Rattle.session_lent_views.specs.declared.lookups.LentAvailability.{LentAvailability}
-use Rattle.session_lent_views.specs.declared.lookups.LentAvailability.TheVariants as available
+use Rattle.panel_lookups.specs.declared.positions.EntryLookup.{EntryLookup}
+use Rattle.panel_rows.specs.declared.values.AvailabilityLookup.{AvailabilityLookup}
 use Rattle.c_answers.specs.declared.values.GeysertrayValue.{GeysertrayValue}
 use Rattle.c_answers.specs.declared.values.GeysertrayAvailability.{GeysertrayAvailability}
 use Rattle.c_answers.specs.declared.values.GeysertrayEntry.{GeysertrayEntry}
@@ -17,14 +17,9 @@ abbrev pub bit : Bool → ℕ
 bit false = 0
 bit true = 1
 
--- 3 where there is no session
-abbrev pub view_number : Bool → ℕ
-view_number false = 0
-view_number true = 3
-
-abbrev pub value_number_to : Bool → ValueLookup → GeysertrayValue
-value_number_to none v = record {
-  disposition = view_number none;
+abbrev pub value_number_to : ℕ → ValueLookup → GeysertrayValue
+value_number_to disposition v = record {
+  disposition = disposition;
   found = bit v.found;
   mark = v.mark;
   kind = v.kind;
@@ -35,15 +30,18 @@ value_number_to none v = record {
   text = v.text;
 }
 
-abbrev pub value_told : LentValue → GeysertrayValue
-value_told v = value_number_to v.no_session v.value
+-- 3 and no value where there is no session
+abbrev pub value_told : Option ValueLookup → GeysertrayValue
+value_told (Some v) = value_number_to 0 v
+value_told None = value_number_to 3 no_value
 
-abbrev pub entry_told : LentEntry → GeysertrayEntry
-entry_told e = record { key = e.entry.key; value = value_number_to e.no_session e.entry.value }
+abbrev pub entry_told : Option EntryLookup → GeysertrayEntry
+entry_told (Some e) = record { key = e.key; value = value_number_to 0 e.value }
+entry_told None = record { key = 0; value = value_number_to 3 no_value }
 
 abbrev pub place_told : PageLookup → GeysertrayPagePlace
-place_told p = record { position = p.position; value = value_number_to false p.value }
+place_told p = record { position = p.position; value = value_number_to 0 p.value }
 
-abbrev pub availability_told : LentAvailability → GeysertrayAvailability
-availability_told (available.Answered a) = record { disposition = 0; found = bit a.found; mark = a.mark; availability = a.availability }
-availability_told available.NoSession = record { disposition = 3; found = 0; mark = 0; availability = 0 }
+abbrev pub availability_told : Option AvailabilityLookup → GeysertrayAvailability
+availability_told (Some a) = record { disposition = 0; found = bit a.found; mark = a.mark; availability = a.availability }
+availability_told None = record { disposition = 3; found = 0; mark = 0; availability = 0 }

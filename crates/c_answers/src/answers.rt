@@ -6,10 +6,8 @@ ghost use Rattle.session_lent.specs.Head.{cursor_kind, cursor_number};
 ghost use Rattle.c_answers.specs.Answers.{disposition_number, answer_to, lifecycle_number_to, session_absent, no_step, batch_told, step_told, creation_told};
 
 use session_creation::CreationRefusal;
-use session_lent::batch::LentBatch;
-use session_lent::creation::LentCreation;
+use session_lent::creation::LentCreationRefusal;
 use session_lent::head;
-use session_lent::lifecycle::LentTransition;
 use session_lifecycle::lifecycle::{ShellTransitionDisposition, ShellTransitionResult};
 use session_lifecycle::state::ProjectionReplayCursor;
 use session_steps::answers::{
@@ -154,30 +152,30 @@ pub fn no_step(disposition: u64) -> GeysertrayLifecycle
     }
 }
 
-pub fn created(answer: LentCreation) -> u64
+pub fn created(answer: Result<(), LentCreationRefusal>) -> u64
     ensures { result ≡ creation_told answer }
 {
     match answer {
-        LentCreation::Created => 0,
-        LentCreation::AnchorsOverCapacity => CreationRefusal::ANCHORS_OVER_CAPACITY,
-        LentCreation::NoSession => NO_SESSION,
+        Ok(()) => 0,
+        Err(LentCreationRefusal::AnchorsOverCapacity) => CreationRefusal::ANCHORS_OVER_CAPACITY,
+        Err(LentCreationRefusal::NoSession) => NO_SESSION,
     }
 }
 
-pub fn stepped(answer: LentTransition) -> GeysertrayLifecycle
+pub fn stepped(answer: Option<ShellTransitionResult>) -> GeysertrayLifecycle
     ensures { result ≡ step_told answer }
 {
     match answer {
-        LentTransition::Answered(result) => step_of(result),
-        LentTransition::NoSession => no_step(NO_SESSION),
+        Some(result) => step_of(result),
+        None => no_step(NO_SESSION),
     }
 }
 
-pub fn answered(answer: LentBatch) -> GeysertrayAnswer
+pub fn answered(answer: Option<ProjectionPatchApplicationResult>) -> GeysertrayAnswer
     ensures { result ≡ batch_told answer }
 {
     match answer {
-        LentBatch::Answered(result) => answer_of(result),
-        LentBatch::NoSession => unanswered(NO_SESSION),
+        Some(result) => answer_of(result),
+        None => unanswered(NO_SESSION),
     }
 }

@@ -7,10 +7,6 @@ use panel_print::PrintAnswer;
 use patch_converter::ConversionRefusal;
 use patch_import::answer::ImportRefusal;
 use patch_part_writer::written::WriteRefusal;
-use session_lent_views::listing::LentListing;
-use session_lent_views::lookups::LentCount;
-use session_lent_views::page::LentPage;
-use session_lent_views::print::LentPrint;
 
 // 0 and how many; 2 and the number of the rule that refuses; 3 no session in the memory; 4 no such edition. A refusal leaves every byte.
 #[repr(C)]
@@ -53,12 +49,12 @@ pub fn not_counted(disposition: u64) -> GeysertrayCount
     }
 }
 
-pub fn count_told(answer: LentCount) -> GeysertrayCount
+pub fn count_told(answer: Option<usize>) -> GeysertrayCount
     ensures { result ≡ count_told answer }
 {
     match answer {
-        LentCount::Answered(n) => counted(n),
-        LentCount::NoSession => not_counted(NO_SESSION),
+        Some(n) => counted(n),
+        None => not_counted(NO_SESSION),
     }
 }
 
@@ -71,12 +67,12 @@ pub fn written_to(answer: Result<usize, WriteRefusal>) -> GeysertrayCount
     }
 }
 
-pub fn listing_told(answer: LentListing) -> GeysertrayCount
+pub fn listing_told(answer: Option<Result<usize, WriteRefusal>>) -> GeysertrayCount
     ensures { result ≡ listing_told answer }
 {
     match answer {
-        LentListing::Answered(written) => written_to(written),
-        LentListing::NoSession => not_counted(NO_SESSION),
+        Some(written) => written_to(written),
+        None => not_counted(NO_SESSION),
     }
 }
 
@@ -89,12 +85,12 @@ fn print_to(answer: PrintAnswer) -> GeysertrayCount
     }
 }
 
-pub fn print_told(answer: LentPrint) -> GeysertrayCount
+pub fn print_told(answer: Option<PrintAnswer>) -> GeysertrayCount
     ensures { result ≡ print_told answer }
 {
     match answer {
-        LentPrint::Answered(print) => print_to(print),
-        LentPrint::NoSession => not_counted(NO_SESSION),
+        Some(print) => print_to(print),
+        None => not_counted(NO_SESSION),
     }
 }
 
@@ -107,12 +103,12 @@ fn page_to(answer: PageAnswer) -> GeysertrayCount
     }
 }
 
-pub fn page_told(answer: LentPage) -> GeysertrayCount
+pub fn page_told(answer: Option<PageAnswer>) -> GeysertrayCount
     ensures { result ≡ page_told answer }
 {
     match answer {
-        LentPage::Answered(page) => page_to(page),
-        LentPage::NoSession => not_counted(NO_SESSION),
+        Some(page) => page_to(page),
+        None => not_counted(NO_SESSION),
     }
 }
 

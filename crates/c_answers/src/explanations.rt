@@ -8,7 +8,6 @@ use crate::figures::{GeysertrayFigures, GeysertrayRulePlace};
 use crate::{figures, rules};
 use session_explain::numbers;
 use session_explain::reasons::{BatchExplanation, BatchReason};
-use session_lent_explain::LentExplanation;
 
 // 0 the batch would be taken; 2 it would be refused, with this number and by this rule, GEYSERTRAY_RULE_ and its name, or both are 0 where the
 // session's limit of 0 diagnostics withholds them; 3 no session in the memory; 4 no such edition.
@@ -66,11 +65,11 @@ fn explanation_told(explanation: BatchExplanation) -> GeysertrayExplanation
     }
 }
 
-pub fn lent_explanation_told(answer: LentExplanation) -> GeysertrayExplanation
+pub fn lent_explanation_told(answer: Option<BatchExplanation>) -> GeysertrayExplanation
     ensures { result ≡ lent_explanation_told answer }
 {
     match answer {
-        LentExplanation::Answered(explanation) => explanation_told(explanation),
-        LentExplanation::NoSession => not_explained(NO_SESSION),
+        Some(explanation) => explanation_told(explanation),
+        None => not_explained(NO_SESSION),
     }
 }

@@ -89,7 +89,7 @@ pub(crate) fn rule_place(reason: BatchReason) -> GeysertrayRulePlace
         BatchReason::ForeignSession { .. } => no_place(),
         BatchReason::SessionClosed => no_place(),
         BatchReason::DeclaredLimits(_, _, _, _, _) => no_place(),
-        BatchReason::Unreadable(_, inside, _) => inside_place(inside),
+        BatchReason::Unreadable(stop) => inside_place(stop.inside),
         BatchReason::HasFindings(place, _, _, _, _) => findings_place(place),
         BatchReason::CountsDiffer(_, _, _, _) => no_place(),
         BatchReason::ReferencesOver { .. } => no_place(),
@@ -133,7 +133,7 @@ pub(crate) fn rule_figures(reason: BatchReason) -> GeysertrayFigures
         BatchReason::ForeignSession { named, own } => figures(2, named, own, 0, 0),
         BatchReason::SessionClosed => figures(0, 0, 0, 0, 0),
         BatchReason::DeclaredLimits(_, a, b, c, d) => figures(4, a, b, c, d),
-        BatchReason::Unreadable(_, _, position) => figures(1, position as u64, 0, 0, 0),
+        BatchReason::Unreadable(stop) => figures(1, stop.at as u64, 0, 0, 0),
         BatchReason::HasFindings(_, n, kind, domain, secondary) => figures(
             4, n as u64, kind, domain, secondary,
         ),

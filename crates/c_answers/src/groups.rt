@@ -10,7 +10,6 @@ use crate::{answers, asked};
 use projection_patch::patch::ProjectionPatchEdition;
 use session_gates::gates::OrderedProjectionPatchBatchEnvelope;
 use session_group::{GroupAnswer, GroupBatch};
-use session_lent_group::group::LentGroup;
 use session_lent_group::places::LentHalf;
 use session_lifecycle::state::{ProjectionReplayCursor, ShellSessionId};
 
@@ -41,10 +40,7 @@ const NO_SESSION: u64 = 3;
 fn both(a: bool, b: bool) -> bool
     ensures { result ≡ (a && b) }
 {
-    if a {
-        return b;
-    }
-    false
+    a && b
 }
 
 // The batch of seven numbers; its edition is the first or the second.
@@ -192,11 +188,11 @@ fn group_to(answer: GroupAnswer, half: u64) -> GeysertrayGroupAnswer
     }
 }
 
-pub fn group_told(answer: LentGroup) -> GeysertrayGroupAnswer
+pub fn group_told(answer: Option<(GroupAnswer, LentHalf)>) -> GeysertrayGroupAnswer
     ensures { result ≡ group_told answer }
 {
     match answer {
-        LentGroup::Answered(group, half) => group_to(group, half_number(half)),
-        LentGroup::NoSession => no_group(NO_SESSION),
+        Some((group, half)) => group_to(group, half_number(half)),
+        None => no_group(NO_SESSION),
     }
 }

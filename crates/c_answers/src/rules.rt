@@ -60,7 +60,7 @@ pub(crate) fn rule_number(reason: BatchReason) -> u64
         BatchReason::ForeignSession { .. } => 1,
         BatchReason::SessionClosed => 2,
         BatchReason::DeclaredLimits(which, _, _, _, _) => limit_rule(which),
-        BatchReason::Unreadable(rule, _, _) => reading_rule(rule),
+        BatchReason::Unreadable(stop) => reading_rule(stop.rule),
         BatchReason::HasFindings(_, _, _, _, _) => 21,
         BatchReason::CountsDiffer(_, _, _, _) => 22,
         BatchReason::ReferencesOver { .. } => 23,

@@ -1,11 +1,12 @@
 // Looked-up values as numbers and the bytes of a text.
 ghost use Rattle.std.specs.Prelude.{◌≡◌};
-ghost use Rattle.c_answers.specs.Values.{bit, view_number, value_number_to, value_told, entry_told, place_told, availability_told};
+ghost use Rattle.c_answers.specs.Values.{bit, value_number_to, value_told, entry_told, place_told, availability_told};
 
+use panel_lookups::positions::EntryLookup;
 use panel_page::rows::PageLookup;
-use panel_rows::values::ValueLookup;
+use panel_rows::values;
+use panel_rows::values::{AvailabilityLookup, ValueLookup};
 use projection_patch::patch::ProjectionPatchValue;
-use session_lent_views::lookups::{LentAvailability, LentEntry, LentValue};
 
 // 0, or 3 for no session in the memory; found is 1, or 0 and then every other number and byte is 0; the mark is the id of the patch that last
 // gave the value. The kinds are 1 quad (N 0, F 1, T 2, S 3), 2 signed, 3 text, 4 unsigned, 5 score, which stands in unsigned_number.
@@ -49,30 +50,19 @@ pub struct GeysertrayPagePlace {
     pub value: GeysertrayValue,
 }
 
+const NO_SESSION: u64 = 3;
+
 fn bit(is: bool) -> u64
     ensures { result ≡ bit is }
 {
-    if is {
-        return 1;
-    }
-    0
+    u64::from(is)
 }
 
-fn view_number(none: bool) -> u64
-    ensures { result ≡ view_number none }
+fn value_to(disposition: u64, value: ValueLookup) -> GeysertrayValue
+    ensures { result ≡ value_number_to disposition value }
 {
-    if none {
-        return 3;
-    }
-    0
-}
-
-fn value_to(none: bool, value: ValueLookup) -> GeysertrayValue
-    ensures { result ≡ value_number_to none value }
-{
-    let text = value.text;
     GeysertrayValue {
-        disposition: view_number(none),
+        disposition,
         found: bit(value.found),
         mark: value.mark,
         kind: value.kind as u64,
@@ -80,52 +70,55 @@ fn value_to(none: bool, value: ValueLookup) -> GeysertrayValue
         signed_number: value.signed,
         unsigned_number: value.unsigned,
         text_length: value.text_len as u64,
-        text,
+        text: value.text,
     }
 }
 
-pub fn value_told(answer: LentValue) -> GeysertrayValue
+pub fn value_told(answer: Option<ValueLookup>) -> GeysertrayValue
     ensures { result ≡ value_told answer }
 {
-    let value = answer.value;
-    value_to(answer.no_session, value)
+    match answer {
+        Some(value) => value_to(0, value),
+        None => value_to(NO_SESSION, values::no_value()),
+    }
 }
 
-pub fn entry_told(answer: LentEntry) -> GeysertrayEntry
+pub fn entry_told(answer: Option<EntryLookup>) -> GeysertrayEntry
     ensures { result ≡ entry_told answer }
 {
-    let entry = answer.entry;
-    let found = entry.value;
-    let value = value_to(answer.no_session, found);
-    GeysertrayEntry {
-        key: entry.key,
-        value,
+    match answer {
+        Some(entry) => GeysertrayEntry {
+            key: entry.key,
+            value: value_to(0, entry.value),
+        },
+        None => GeysertrayEntry {
+            key: 0,
+            value: value_to(NO_SESSION, values::no_value()),
+        },
     }
 }
 
 pub fn place_told(place: PageLookup) -> GeysertrayPagePlace
     ensures { result ≡ place_told place }
 {
-    let found = place.value;
-    let value = value_to(false, found);
     GeysertrayPagePlace {
         position: place.position,
-        value,
+        value: value_to(0, place.value),
     }
 }
 
-pub fn availability_told(answer: LentAvailability) -> GeysertrayAvailability
+pub fn availability_told(answer: Option<AvailabilityLookup>) -> GeysertrayAvailability
     ensures { result ≡ availability_told answer }
 {
     match answer {
-        LentAvailability::Answered(node) => GeysertrayAvailability {
+        Some(node) => GeysertrayAvailability {
             disposition: 0,
             found: bit(node.found),
             mark: node.mark,
             availability: node.availability as u64,
         },
-        LentAvailability::NoSession => GeysertrayAvailability {
-            disposition: 3,
+        None => GeysertrayAvailability {
+            disposition: NO_SESSION,
             found: 0,
             mark: 0,
             availability: 0,

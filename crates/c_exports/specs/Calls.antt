@@ -1,4 +1,5 @@
 -- What the exported calls promise: an answer of the call below, told as numbers, and the memory as that call leaves it.
+use Rattle.std.specs.Prelude.{Option}
 use Rattle.std.specs.Prelude.{ℕ, ◌<◌, ◌≤◌, ◌≡◌, List}
 use Rattle.std.proofs.Common.{subst}
 use Rattle.spec_patch.specs.Edition.{Edition}
@@ -8,8 +9,8 @@ use Rattle.spec_session.specs.Batch.{BatchEnvelope}
 use Rattle.panel_changes.specs.PlanMemory.{PlanTables}
 use Rattle.session_lent.specs.Steps.{TransitionCall, CreationCall}
 use Rattle.session_lent.specs.Batches.{SameHalf, BatchCallOnSlices}
-use Rattle.session_lent.specs.declared.batch.LentBatch.{LentBatch}
-use Rattle.session_lent.specs.declared.lifecycle.LentTransition.{LentTransition}
+use Rattle.session_steps.specs.declared.answers.ProjectionPatchApplicationResult.{ProjectionPatchApplicationResult}
+use Rattle.session_lifecycle.specs.declared.lifecycle.ShellTransitionResult.{ShellTransitionResult}
 use Rattle.c_answers.specs.declared.answers.GeysertrayAnswer.{GeysertrayAnswer}
 use Rattle.c_answers.specs.declared.answers.GeysertrayLifecycle.{GeysertrayLifecycle}
 use Rattle.c_answers.specs.Answers.{batch_told, step_told, creation_told, session_absent, no_step}
@@ -46,9 +47,9 @@ module _ (edition : ℕ) (v : BatchEnvelope) (declared : ℕ) (set head nodes pa
 
 -- ---- a call told otherwise
 
-module _ {v : BatchEnvelope} {declared : ℕ} {set head nodes pairs collections b a e toH toB toA toE toL : List ℕ} {plan : PlanTables} {r : LentBatch} {h' b' a' e' l' : List ℕ} where
+module _ {v : BatchEnvelope} {declared : ℕ} {set head nodes pairs collections b a e toH toB toA toE toL : List ℕ} {plan : PlanTables} {r : Option ProjectionPatchApplicationResult} {h' b' a' e' l' : List ℕ} where
   pub same_edition : {x y : Edition} → x ≡ y → BatchCallOnSlices x v declared set head nodes pairs collections b a e toH toB toA toE toL plan r h' b' a' e' l' → BatchCallOnSlices y v declared set head nodes pairs collections b a e toH toB toA toE toL plan r h' b' a' e' l'
   same_edition is = subst (λ ed. BatchCallOnSlices ed v declared set head nodes pairs collections b a e toH toB toA toE toL plan r h' b' a' e' l') is
 
-pub same_stimulus : {h : List ℕ} {u w : Stimulus} {n : ℕ} {r : LentTransition} {h' : List ℕ} → u ≡ w → TransitionCall h u n r h' → TransitionCall h w n r h'
+pub same_stimulus : {h : List ℕ} {u w : Stimulus} {n : ℕ} {r : Option ShellTransitionResult} {h' : List ℕ} → u ≡ w → TransitionCall h u n r h' → TransitionCall h w n r h'
 same_stimulus {h = h} {n = n} {r = r} {h' = h'} is = subst (λ u. TransitionCall h u n r h') is

@@ -7,7 +7,6 @@ ghost use Rattle.c_exports.specs.Calls.{Told};
 ghost use Rattle.c_exports.specs.Turns.{set_up_told, lent_set_up_told, register_told, lent_register_told, turn_to, lent_turn_told};
 
 use session_lent::head;
-use session_lent_turns::{LentRegistration, LentSetUp, LentTurn};
 use session_turns::{RegisterRefusal, SetUpRefusal, Turn};
 
 // Whether a sender was named (1), and then which, and the number for its batch.
@@ -31,12 +30,12 @@ fn set_up_told(answer: Result<(), SetUpRefusal>) -> u64
     }
 }
 
-fn lent_set_up_told(answer: LentSetUp) -> u64
+fn lent_set_up_told(answer: Option<Result<(), SetUpRefusal>>) -> u64
     ensures { result ≡ lent_set_up_told answer }
 {
     match answer {
-        LentSetUp::Answered(answer) => set_up_told(answer),
-        LentSetUp::NoTurns => NO_TURNS,
+        Some(answer) => set_up_told(answer),
+        None => NO_TURNS,
     }
 }
 
@@ -60,12 +59,12 @@ fn register_told(answer: Result<(), RegisterRefusal>) -> u64
     }
 }
 
-fn lent_register_told(answer: LentRegistration) -> u64
+fn lent_register_told(answer: Option<Result<(), RegisterRefusal>>) -> u64
     ensures { result ≡ lent_register_told answer }
 {
     match answer {
-        LentRegistration::Answered(answer) => register_told(answer),
-        LentRegistration::NoTurns => NO_TURNS,
+        Some(answer) => register_told(answer),
+        None => NO_TURNS,
     }
 }
 
@@ -99,12 +98,12 @@ fn turn_to(answer: Option<Turn>) -> GeysertrayTurn
     }
 }
 
-fn lent_turn_told(answer: LentTurn) -> GeysertrayTurn
+fn lent_turn_told(answer: Option<Option<Turn>>) -> GeysertrayTurn
     ensures { result ≡ lent_turn_told answer }
 {
     match answer {
-        LentTurn::Answered(answer) => turn_to(answer),
-        LentTurn::NoTurns => GeysertrayTurn {
+        Some(answer) => turn_to(answer),
+        None => GeysertrayTurn {
             disposition: NO_TURNS,
             named: 0,
             sender: 0,

@@ -1,5 +1,5 @@
 -- What a locator of a part answers, as definitions of the way that spec_explain goes: positions count from the part's start.
-use Rattle.std.specs.Prelude.{ℕ, ◌-◌, ltb, length, if◌then◌else◌}
+use Rattle.std.specs.Prelude.{ℕ, ◌-◌, ltb, Result, Ok, Err, length, if◌then◌else◌}
 use Rattle.std.proofs.Math.Option.{Option, none, some}
 use Rattle.spec_explain.specs.ReadingRule as model
 use Rattle.spec_explain.specs.Locate as locating
@@ -7,10 +7,7 @@ use Rattle.patch_locate.specs.declared.rules.ReadingRule.{ReadingRule}
 use Rattle.patch_locate.specs.declared.rules.ReadingRule.TheVariants as rules
 use Rattle.patch_locate.specs.declared.rules.Inside.{Inside}
 use Rattle.patch_locate.specs.declared.rules.Inside.TheVariants as insides
-use Rattle.patch_locate.specs.declared.rules.Located.{Located}
-use Rattle.patch_locate.specs.declared.rules.Located.TheVariants as located
-use Rattle.patch_locate.specs.declared.set.SetLocated.{SetLocated}
-use Rattle.patch_locate.specs.declared.set.SetLocated.TheVariants as sets
+use Rattle.patch_locate.specs.declared.rules.Stop.{Stop}
 
 -- the rules, both ways
 abbrev pub rule_to : model.ReadingRule → ReadingRule
@@ -58,25 +55,44 @@ inside_of insides.Outside = model.outside
 inside_of (insides.Patch i) = model.in_patch i
 inside_of (insides.Operation i j) = model.in_operation i j
 
--- of a part of n bytes: the position behind what was passed, or that of the field
-abbrev pub located_answer : ℕ → locating.Located → Located
-located_answer n (locating.past rest) = located.Past (n - length rest)
-located_answer n (locating.stop s) = located.Stop (rule_to s.rule) (inside_to s.inside) (n - s.left)
+-- a stop that has no place yet
+abbrev pub stop_outside : ReadingRule → ℕ → Stop
+stop_outside rule p = record { rule = rule; inside = insides.Outside; at = p }
+
+-- of a part of n bytes: the position behind what was passed, or the stop with the position of its field
+abbrev pub stop_to : ℕ → locating.Stop → Stop
+stop_to n s = record { rule = rule_to s.rule; inside = inside_to s.inside; at = n - s.left }
+
+abbrev pub located_answer : ℕ → locating.Located → Result ℕ Stop
+located_answer n (locating.past rest) = Ok (n - length rest)
+located_answer n (locating.stop s) = Err (stop_to n s)
 
 -- a stop that has no place yet is given this one
-abbrev pub within_to : Inside → Located → Located
-within_to here (located.Past next) = located.Past next
-within_to here (located.Stop rule insides.Outside p) = located.Stop rule here p
-within_to here (located.Stop rule (insides.Patch i) p) = located.Stop rule (insides.Patch i) p
-within_to here (located.Stop rule (insides.Operation i j) p) = located.Stop rule (insides.Operation i j) p
+abbrev pub place_in : Inside → Inside → Inside
+place_in here insides.Outside = here
+place_in here (insides.Patch i) = insides.Patch i
+place_in here (insides.Operation i j) = insides.Operation i j
+
+abbrev pub placed_in : Inside → Stop → Stop
+placed_in here s = record { rule = s.rule; inside = place_in here s.inside; at = s.at }
+
+abbrev pub within_to : Inside → Result ℕ Stop → Result ℕ Stop
+within_to here (Ok next) = Ok next
+within_to here (Err s) = Err (placed_in here s)
 
 -- ---- a whole set
 
 -- bytes behind what was passed are left over
-abbrev pub end_to : ℕ → Located → SetLocated
-end_to n (located.Past at) = if ltb at n then sets.Unread rules.BytesLeft insides.Outside at else sets.Read
-end_to n (located.Stop rule inside p) = sets.Unread rule inside p
+abbrev pub end_to : ℕ → Result ℕ Stop → Result (Unit {0}) Stop
+end_to n (Ok p) = if ltb p n then Err (stop_outside rules.BytesLeft p) else Ok tt
+end_to n (Err s) = Err s
 
-abbrev pub located_set : Option model.Unread → SetLocated
-located_set none = sets.Read
-located_set (some u) = sets.Unread (rule_to u.rule) (inside_to u.inside) u.position
+abbrev pub unread_to : model.Unread → Stop
+unread_to u = record { rule = rule_to u.rule; inside = inside_to u.inside; at = u.position }
+
+abbrev pub located_set : Option model.Unread → Result (Unit {0}) Stop
+located_set none = Ok tt
+located_set (some u) = Err (unread_to u)
+
+abbrev pub unread_of : Stop → model.Unread
+unread_of s = record { rule = reading_rule_of s.rule; inside = inside_of s.inside; position = s.at }

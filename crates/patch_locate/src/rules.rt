@@ -1,4 +1,7 @@
-// The rules that end the reading of a set, and what a locator answers.
+// The rules that end the reading of a set, and where it stops by one.
+ghost use Rattle.std.specs.Prelude.{◌≡◌};
+ghost use Rattle.patch_locate.specs.Answers.{stop_outside, placed_in};
+
 #[derive(Clone, Copy)]
 pub enum ReadingRule {
     SetTooLong,
@@ -26,9 +29,36 @@ pub enum Inside {
     Operation(usize, usize),
 }
 
-// The position behind what was passed, or the rule, the place and the position of the field at which reading stops.
-#[derive(Drop)]
-pub enum Located {
-    Past(usize),
-    Stop(ReadingRule, Inside, usize),
+// Where reading stops: by which rule, in which patch and operation, and at which field's position.
+#[derive(Clone, Copy)]
+pub struct Stop {
+    pub rule: ReadingRule,
+    pub inside: Inside,
+    pub at: usize,
+}
+
+impl Stop {
+    // A stop that has no place yet.
+    pub(crate) fn outside(rule: ReadingRule, at: usize) -> Stop
+        ensures { result ≡ stop_outside rule at }
+    {
+        Stop {
+            rule,
+            inside: Inside::Outside,
+            at,
+        }
+    }
+
+    // A stop that has no place yet is given this one.
+    pub(crate) fn within(self, here: Inside) -> Stop
+        ensures { result ≡ placed_in here self }
+    {
+        match self.inside {
+            Inside::Outside => Stop {
+                inside: here,
+                ..self
+            },
+            Inside::Patch(_) | Inside::Operation(_, _) => self,
+        }
+    }
 }

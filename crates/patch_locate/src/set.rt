@@ -5,32 +5,18 @@ ghost use Rattle.spec_patch.specs.Encode.{heading};
 ghost use Rattle.spec_explain.specs.ReadingRule.{patch_count, operation_count_lem};
 ghost use Rattle.spec_explain.specs.Locate.{repeated, counted, locate_patch, locate_letters, locate_patches, locate};
 ghost use Rattle.projection_patch.specs.Meaning.{edition_of};
-ghost use Rattle.patch_locate.specs.Answers.{located_answer, within_to, end_to, located_set};
+ghost use Rattle.patch_locate.specs.Answers.{located_answer, within_to, located_set};
 ghost use Rattle.patch_locate.specs.Fields.{operation_in, patch_fields};
 
 use crate::fields;
-use crate::rules::{Inside, Located, ReadingRule};
+use crate::rules::{Inside, ReadingRule, Stop};
 use projection_patch::patch::{ProjectionPatch, ProjectionPatchEdition, ProjectionPatchSet};
 
-// A set that is read, or the rule, the place and the position of the field at which its reading stops.
-#[derive(Drop)]
-pub enum SetLocated {
-    Read,
-    Unread(ReadingRule, Inside, usize),
-}
-
 // A stop that has no place yet is given this one.
-fn within(located: Located, here: Inside) -> Located
+fn within(located: Result<usize, Stop>, here: Inside) -> Result<usize, Stop>
     ensures { result ≡ within_to here located }
 {
-    match located {
-        Located::Past(next) => Located::Past(next),
-        Located::Stop(rule, inside, position) => match inside {
-            Inside::Outside => Located::Stop(rule, here, position),
-            Inside::Patch(i) => Located::Stop(rule, Inside::Patch(i), position),
-            Inside::Operation(i, j) => Located::Stop(rule, Inside::Operation(i, j), position),
-        },
-    }
+    located.map_err(|stop| stop.within(here))
 }
 
 // So many operations of a patch, one after the other.
@@ -40,25 +26,16 @@ fn operations_at(
     count: usize,
     patch: usize,
     edition: ProjectionPatchEdition,
-) -> Located
+) -> Result<usize, Stop>
     requires { at ≤ length set.now }
     ensures { result ≡ located_answer (length set.now) (repeated (operation_in (edition_of edition) patch) 0 count (drop at set.now)) }
 {
     let mut next = at;
-    let mut j: usize = 0;
-    while j < count {
+    for j in 0..count {
         let operation = fields::operation_at(set, next, edition);
-        match within(operation, Inside::Operation(patch, j)) {
-            Located::Past(end) => {
-                next = end;
-            }
-            Located::Stop(rule, inside, position) => {
-                return Located::Stop(rule, inside, position);
-            }
-        }
-        j += 1;
+        next = within(operation, Inside::Operation(patch, j))?;
     }
-    Located::Past(next)
+    Ok(next)
 }
 
 // The operations of a patch behind their count.
@@ -67,82 +44,79 @@ fn operations_counted(
     at: usize,
     patch: usize,
     edition: ProjectionPatchEdition,
-) -> Located
+) -> Result<usize, Stop>
     ensures { result ≡ located_answer (length set.now) (counted operation_count_lem patch_operations (operation_in (edition_of edition) patch) (drop at set.now)) }
 {
     let Some(count) = bytes_wire::read_u32_at(set, at) else {
-        return fields::stop_at(set.len(), at, ReadingRule::TooFewBytes);
+        return Err(fields::stop_at(set.len(), at, ReadingRule::TooFewBytes));
     };
     if count as usize <= ProjectionPatch::OPERATIONS {
         return operations_at(set, at + 4, count as usize, patch, edition);
     }
-    Located::Stop(ReadingRule::OperationCount, Inside::Outside, at)
+    Err(Stop::outside(ReadingRule::OperationCount, at))
 }
 
 // The fields of a patch: its envelope, and its operations behind their count.
-fn patch_fields(set: &[u8], at: usize, patch: usize, edition: ProjectionPatchEdition) -> Located
+fn patch_fields(
+    set: &[u8],
+    at: usize,
+    patch: usize,
+    edition: ProjectionPatchEdition,
+) -> Result<usize, Stop>
     requires { at ≤ length set.now }
     ensures { result ≡ located_answer (length set.now) (patch_fields (edition_of edition) patch (drop at set.now)) }
 {
-    match fields::fields_at(set, at, b"NNNONNNN", edition) {
-        Located::Past(end) => operations_counted(set, end, patch, edition),
-        Located::Stop(rule, inside, position) => Located::Stop(rule, inside, position),
-    }
+    let end = fields::fields_at(set, at, b"NNNONNNN", edition)?;
+    operations_counted(set, end, patch, edition)
 }
 
 // So many patches, one after the other.
-fn patches_at(set: &[u8], at: usize, count: usize, edition: ProjectionPatchEdition) -> Located
+fn patches_at(
+    set: &[u8],
+    at: usize,
+    count: usize,
+    edition: ProjectionPatchEdition,
+) -> Result<usize, Stop>
     requires { at ≤ length set.now }
     ensures { result ≡ located_answer (length set.now) (repeated (locate_patch (edition_of edition)) 0 count (drop at set.now)) }
 {
     let mut next = at;
-    let mut i: usize = 0;
-    while i < count {
+    for i in 0..count {
         let patch = patch_fields(set, next, i, edition);
-        match within(patch, Inside::Patch(i)) {
-            Located::Past(end) => {
-                next = end;
-            }
-            Located::Stop(rule, inside, position) => {
-                return Located::Stop(rule, inside, position);
-            }
-        }
-        i += 1;
+        next = within(patch, Inside::Patch(i))?;
     }
-    Located::Past(next)
+    Ok(next)
 }
 
 // The patches behind their count.
-fn patches_counted(set: &[u8], at: usize, edition: ProjectionPatchEdition) -> Located
+fn patches_counted(set: &[u8], at: usize, edition: ProjectionPatchEdition) -> Result<usize, Stop>
     ensures { result ≡ located_answer (length set.now) (counted patch_count set_patches (locate_patch (edition_of edition)) (drop at set.now)) }
 {
     let Some(count) = bytes_wire::read_u32_at(set, at) else {
-        return fields::stop_at(set.len(), at, ReadingRule::TooFewBytes);
+        return Err(fields::stop_at(set.len(), at, ReadingRule::TooFewBytes));
     };
     if count as usize <= ProjectionPatchSet::PATCHES {
         return patches_at(set, at + 4, count as usize, edition);
     }
-    Located::Stop(ReadingRule::PatchCount, Inside::Outside, at)
+    Err(Stop::outside(ReadingRule::PatchCount, at))
 }
 
 // Just these bytes, from the start of the set.
-fn letters_at(set: &[u8], letters: &[u8]) -> Located
+fn letters_at(set: &[u8], letters: &[u8]) -> Result<usize, Stop>
     ensures { result ≡ located_answer (length set.now) (locate_letters letters.now set.now) }
 {
-    let mut i: usize = 0;
-    while i < letters.len() {
+    for (i, letter) in letters.iter().enumerate() {
         if set.len() <= i {
-            return fields::stop_at(set.len(), i, ReadingRule::TooFewBytes);
+            return Err(fields::stop_at(set.len(), i, ReadingRule::TooFewBytes));
         }
-        if set[i] != letters[i] {
-            return Located::Stop(ReadingRule::WrongHeading, Inside::Outside, i);
+        if set[i] != *letter {
+            return Err(Stop::outside(ReadingRule::WrongHeading, i));
         }
-        i += 1;
     }
-    Located::Past(i)
+    Ok(letters.len())
 }
 
-fn heading_at(set: &[u8], edition: ProjectionPatchEdition) -> Located
+fn heading_at(set: &[u8], edition: ProjectionPatchEdition) -> Result<usize, Stop>
     ensures { result ≡ located_answer (length set.now) (locate_letters (heading (edition_of edition)) set.now) }
 {
     match edition {
@@ -152,36 +126,23 @@ fn heading_at(set: &[u8], edition: ProjectionPatchEdition) -> Located
 }
 
 // The way through heading and patches.
-fn way(set: &[u8], edition: ProjectionPatchEdition) -> Located
+fn way(set: &[u8], edition: ProjectionPatchEdition) -> Result<usize, Stop>
     ensures { result ≡ located_answer (length set.now) (locate_patches (edition_of edition) set.now) }
 {
-    match heading_at(set, edition) {
-        Located::Past(at) => patches_counted(set, at, edition),
-        Located::Stop(rule, inside, position) => Located::Stop(rule, inside, position),
-    }
-}
-
-// What the way through a set of so many bytes tells.
-fn at_end(bytes: usize, located: Located) -> SetLocated
-    ensures { result ≡ end_to bytes located }
-{
-    match located {
-        Located::Past(at) => {
-            if at < bytes {
-                return SetLocated::Unread(ReadingRule::BytesLeft, Inside::Outside, at);
-            }
-            SetLocated::Read
-        }
-        Located::Stop(rule, inside, position) => SetLocated::Unread(rule, inside, position),
-    }
+    let at = heading_at(set, edition)?;
+    patches_counted(set, at, edition)
 }
 
 // Where the reading of a set stops, or that it is read.
-pub fn locate_set(set: &[u8], edition: ProjectionPatchEdition) -> SetLocated
+pub fn locate_set(set: &[u8], edition: ProjectionPatchEdition) -> Result<(), Stop>
     ensures { result ≡ located_set (locate (edition_of edition) set.now) }
 {
     if ProjectionPatchSet::BYTES < set.len() {
-        return SetLocated::Unread(ReadingRule::SetTooLong, Inside::Outside, 0);
+        return Err(Stop::outside(ReadingRule::SetTooLong, 0));
     }
-    at_end(set.len(), way(set, edition))
+    let at = way(set, edition)?;
+    if at < set.len() {
+        return Err(Stop::outside(ReadingRule::BytesLeft, at));
+    }
+    Ok(())
 }

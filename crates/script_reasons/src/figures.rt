@@ -88,9 +88,9 @@ pub fn print_figures(out: &mut [u8], at: Option<usize>, reason: BatchReason) -> 
         BatchReason::ForeignSession { named, own } => print_two(out, at, named, own),
         BatchReason::SessionClosed => bytes_printer::print_newline(out, at),
         BatchReason::DeclaredLimits(_, a, b, c, d) => print_four(out, at, a, b, c, d),
-        BatchReason::Unreadable(_, inside, position) => {
-            let byte = bytes_printer::print_field_u64(out, at, position as u64);
-            print_inside(out, byte, inside)
+        BatchReason::Unreadable(stop) => {
+            let byte = bytes_printer::print_field_u64(out, at, stop.at as u64);
+            print_inside(out, byte, stop.inside)
         }
         BatchReason::HasFindings(place, count, kind, domain, secondary) => {
             let named = print_place(out, at, place);

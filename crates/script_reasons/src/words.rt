@@ -87,7 +87,7 @@ pub fn print_word(out: &mut [u8], at: Option<usize>, reason: BatchReason) -> Opt
         ),
         BatchReason::SessionClosed => bytes_printer::print_field_bytes(out, at, b"closed"),
         BatchReason::DeclaredLimits(which, _, _, _, _) => print_limit(out, at, which),
-        BatchReason::Unreadable(rule, _, _) => print_reading(out, at, rule),
+        BatchReason::Unreadable(stop) => print_reading(out, at, stop.rule),
         BatchReason::HasFindings(_, _, _, _, _) => bytes_printer::print_field_bytes(
             out,
             at,

@@ -1,5 +1,5 @@
 -- The reason of a batch on a session that is stored: that of its checks, or else that of its operations, under the cap.
-use Rattle.std.specs.Prelude.{ℕ, ◌≡◌, List}
+use Rattle.std.specs.Prelude.{ℕ, Result, Ok, Err, ◌≡◌, List}
 use Rattle.std.proofs.Common.{sym, ap₂, ◌∙◌}
 use Rattle.std.proofs.Math.Path.{ap}
 use Rattle.spec_patch.specs.Edition.{Edition}
@@ -20,57 +20,56 @@ use Rattle.session_explain.specs.Reasons.{step_to, explanation_to, first_to, cap
 use Rattle.session_explain.specs.Steps.{checks_by}
 use Rattle.session_explain.specs.StepsLaws.{first_then, capped_is, check_steps, operation_steps, steps_are, checks_read}
 use Rattle.session_explain.specs.declared.reasons.BatchReason.{BatchReason}
-use Rattle.session_explain.specs.declared.reasons.StepReason.{StepReason}
-use Rattle.session_explain.specs.declared.reasons.StepReason.TheVariants as steps
-use Rattle.session_explain.specs.declared.reasons.BatchExplanation.{BatchExplanation}
 
 module _ (ed : Edition) (m : Session) (e : BatchEnvelope) (declared : ℕ) (set : List ℕ) where
-  abbrev operations : StepReason
+  abbrev operations : Result (Unit {0}) BatchReason
   operations = step_to (operation_steps ed m e declared set (patches_read (read_set ed set)))
 
-  -- the steps' reason under the cap is what the call tells
-  told_is : {x : StepReason} → x ≡ first_to (step_to (check_steps ed m e declared set)) operations → capped_to m.limits.diagnostics x ≡ explanation_to (explain ed m e declared set)
+  abbrev Whole : Result (Unit {0}) BatchReason
+  Whole = step_to (explain_steps ed m e declared set)
+
+  -- the steps' reason under the session's cap is what the call tells
+  pub told_is : {x : Result (Unit {0}) BatchReason} {cap : ℕ} → cap ≡ m.limits.diagnostics → x ≡ Whole → capped_to cap x ≡ explanation_to (explain ed m e declared set)
   unfolding explain explain_batch
-  told_is is =
-      ap (capped_to m.limits.diagnostics) (is ∙ first_then (check_steps ed m e declared set) (operation_steps ed m e declared set (patches_read (read_set ed set))) ∙ ap step_to (sym (steps_are ed m e declared set)))
-      ∙ capped_is m.limits.diagnostics (explain_steps ed m e declared set)
+  told_is {x} cap_is is = ap (λ (n : ℕ). capped_to n x) cap_is ∙ ap (capped_to m.limits.diagnostics) is ∙ capped_is m.limits.diagnostics (explain_steps ed m e declared set)
 
-  -- the cap is the session's, and the reason of its checks is known
-  module _ {cap : ℕ} (cap_is : cap ≡ m.limits.diagnostics) {r : StepReason} (checked : r ≡ step_to (check_steps ed m e declared set)) where
-    under : {x : StepReason} {out : BatchExplanation} → out ≡ capped_to cap x → x ≡ first_to (step_to (check_steps ed m e declared set)) operations → out ≡ explanation_to (explain ed m e declared set)
-    under {x} is by = is ∙ ap (λ (n : ℕ). capped_to n x) cap_is ∙ told_is by
+  -- the reason of its checks is known
+  module _ {r : Result (Unit {0}) BatchReason} (checked : r ≡ step_to (check_steps ed m e declared set)) where
+    whole : first_to r operations ≡ Whole
+    whole =
+        ap (λ (y : Result (Unit {0}) BatchReason). first_to y operations) checked
+        ∙ first_then (check_steps ed m e declared set) (operation_steps ed m e declared set (patches_read (read_set ed set))) ∙ ap step_to (sym (steps_are ed m e declared set))
 
-    pub checks_tell : {x : BatchReason} → r ≡ steps.Because x → {out : BatchExplanation} → out ≡ capped_to cap r → out ≡ explanation_to (explain ed m e declared set)
-    checks_tell is out = under out (is ∙ ap (λ (y : StepReason). first_to y operations) (sym is ∙ checked))
+    pub checks_tell : {x : BatchReason} → r ≡ Err x → Err x ≡ Whole
+    checks_tell is = sym (ap (λ (y : Result (Unit {0}) BatchReason). first_to y operations) is) ∙ whole
 
-    pub operations_tell : r ≡ steps.Fine → {a : StepReason} → ((ps : List Patch) → read_set ed set ≡ patches ps → a ≡ step_to (applies (walk_patches step_kept 0 m.projection ps)))
-        → {out : BatchExplanation} → out ≡ capped_to cap a → out ≡ explanation_to (explain ed m e declared set)
+    pub operations_tell : r ≡ Ok tt → {a : Result (Unit {0}) BatchReason} → ((ps : List Patch) → read_set ed set ≡ patches ps → a ≡ step_to (applies (walk_patches step_kept 0 m.projection ps))) → a ≡ Whole
     unfolding patches_read
-    operations_tell is by out =
+    operations_tell is by =
         let read = checks_read ed m e declared set (sym checked ∙ is) in
-        under out (ap₂ first_to (sym is ∙ checked) (by read.0 read.1 ∙ ap (λ (x : SetReading). step_to (operation_steps ed m e declared set (patches_read x))) (sym read.1)))
+        by read.0 read.1 ∙ ap (λ (x : SetReading). step_to (operation_steps ed m e declared set (patches_read x))) (sym read.1)
+        ∙ sym (ap (λ (y : Result (Unit {0}) BatchReason). first_to y operations) is) ∙ whole
 
   -- of a session by value
-  module _ {context : ActivatedShellSessionContext} {state : ShellLocalState} (seen : SeenSession context state m) {r : StepReason}
-      (told : r ≡ step_to (checks_by ed context.session_id.0 (limits_of context.limits) (lifecycle_of state.lifecycle) (cursor_of state.replay_cursor) (catalogue_of context.catalog) e declared set)) where
-    checked : r ≡ step_to (check_steps ed m e declared set)
-    checked = told ∙ (λ j. step_to (checks_by ed (seen.id_is j) (seen.limits_are j) (seen.lifecycle_is j) (seen.cursor_is j) (seen.catalogue_is j) e declared set))
+  module _ {context : ActivatedShellSessionContext} {state : ShellLocalState} (seen : SeenSession context state m) where
+    pub value_cap : context.limits.max_diagnostics_per_transition ≡ m.limits.diagnostics
+    value_cap = ap (λ (l : Limits). l.diagnostics) seen.limits_are
 
-    cap_is : context.limits.max_diagnostics_per_transition ≡ m.limits.diagnostics
-    cap_is = ap (λ (l : Limits). l.diagnostics) seen.limits_are
+    module _ {r : Result (Unit {0}) BatchReason}
+        (told : r ≡ step_to (checks_by ed context.session_id.0 (limits_of context.limits) (lifecycle_of state.lifecycle) (cursor_of state.replay_cursor) (catalogue_of context.catalog) e declared set)) where
+      checked : r ≡ step_to (check_steps ed m e declared set)
+      checked = told ∙ (λ j. step_to (checks_by ed (seen.id_is j) (seen.limits_are j) (seen.lifecycle_is j) (seen.cursor_is j) (seen.catalogue_is j) e declared set))
 
-    pub checks_explain : {x : BatchReason} → r ≡ steps.Because x → {out : BatchExplanation} → out ≡ capped_to context.limits.max_diagnostics_per_transition r → out ≡ explanation_to (explain ed m e declared set)
-    checks_explain is out = checks_tell cap_is checked is out
+      pub checks_explain : {x : BatchReason} → r ≡ Err x → Err x ≡ Whole
+      checks_explain is = checks_tell checked is
 
-    pub operations_explain : r ≡ steps.Fine → {a : StepReason} → ((ps : List Patch) → read_set ed set ≡ patches ps → a ≡ step_to (applies (walk_patches step_kept 0 m.projection ps)))
-        → {out : BatchExplanation} → out ≡ capped_to context.limits.max_diagnostics_per_transition a → out ≡ explanation_to (explain ed m e declared set)
-    operations_explain is by out = operations_tell cap_is checked is by out
+      pub operations_explain : r ≡ Ok tt → {a : Result (Unit {0}) BatchReason} → ((ps : List Patch) → read_set ed set ≡ patches ps → a ≡ step_to (applies (walk_patches step_kept 0 m.projection ps))) → a ≡ Whole
+      operations_explain is by = operations_tell checked is by
 
   -- of a session in lent memory
-  module _ {id : ℕ} {limits : ShellLifecycleLimits} {state : ShellLocalState} {nodes bindings collections : List ℕ} (seen : Seen m id limits state nodes bindings collections) {r : StepReason}
-      (told : r ≡ step_to (checks_by ed id (limits_of limits) (lifecycle_of state.lifecycle) (cursor_of state.replay_cursor) m.catalogue e declared set)) where
-    pub lent_checked : r ≡ step_to (check_steps ed m e declared set)
-    lent_checked = told ∙ (λ j. step_to (checks_by ed (seen.id_is j) (seen.limits_are j) (seen.lifecycle_is j) (seen.cursor_is j) m.catalogue e declared set))
-
+  module _ {id : ℕ} {limits : ShellLifecycleLimits} {state : ShellLocalState} {nodes bindings collections : List ℕ} (seen : Seen m id limits state nodes bindings collections) where
     pub lent_cap : limits.max_diagnostics_per_transition ≡ m.limits.diagnostics
     lent_cap = ap (λ (l : Limits). l.diagnostics) seen.limits_are
+
+    pub lent_checked : {r : Result (Unit {0}) BatchReason} → r ≡ step_to (checks_by ed id (limits_of limits) (lifecycle_of state.lifecycle) (cursor_of state.replay_cursor) m.catalogue e declared set) → r ≡ step_to (check_steps ed m e declared set)
+    lent_checked told = told ∙ (λ j. step_to (checks_by ed (seen.id_is j) (seen.limits_are j) (seen.lifecycle_is j) (seen.cursor_is j) m.catalogue e declared set))

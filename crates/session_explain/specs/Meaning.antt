@@ -4,7 +4,7 @@ use Rattle.spec_explain.specs.OperationRule as operations
 use Rattle.spec_explain.specs.Reason as model
 use Rattle.spec_explain.specs.Explain as explaining
 use Rattle.spec_lists.specs.Options.{optional_of}
-use Rattle.patch_locate.specs.Answers.{reading_rule_of, inside_of}
+use Rattle.patch_locate.specs.Answers.{unread_of}
 use Rattle.check_set.specs.declared.check_set.CheckPlace.{CheckPlace}
 use Rattle.check_set.specs.declared.check_set.CheckPlace.TheVariants as places
 use Rattle.session_explain.specs.declared.reasons.DeclaredLimit.{DeclaredLimit}
@@ -37,7 +37,7 @@ abbrev pub printed_reason_of : BatchReason → model.Reason
 printed_reason_of (reasons.ForeignSession named own) = model.foreign_session named own
 printed_reason_of reasons.SessionClosed = model.session_closed
 printed_reason_of (reasons.DeclaredLimits w a b c d) = model.declared_limits (limit_of w) a b c d
-printed_reason_of (reasons.Unreadable rule inside p) = model.unreadable (record { rule = reading_rule_of rule; inside = inside_of inside; position = p })
+printed_reason_of (reasons.Unreadable stop) = model.unreadable (unread_of stop)
 printed_reason_of (reasons.HasFindings place n k d s) = model.has_findings (finding_place_of place) n (record { kind = k; domain = d; secondary = s })
 printed_reason_of (reasons.CountsDiffer a b c d) = model.counts_differ a b c d
 printed_reason_of (reasons.ReferencesOver a b) = model.references_over a b

@@ -1,6 +1,8 @@
 -- 01's numbers of the reasons, by the types of the code.
 use Rattle.std.specs.Prelude.{ℕ, ◌≡◌, refl}
-use Rattle.spec_explain.specs.Reason.{reason_number}
+use Rattle.spec_explain.specs.ReadingRule.{Inside}
+use Rattle.spec_explain.specs.Reason.{unreadable, reason_number}
+use Rattle.patch_locate.specs.Answers.{reading_rule_of, inside_of}
 use Rattle.patch_locate.specs.declared.rules.ReadingRule.{ReadingRule}
 use Rattle.patch_locate.specs.declared.rules.ReadingRule.TheVariants as readings
 use Rattle.session_explain.specs.declared.reasons.OperationRule.{OperationRule}
@@ -39,13 +41,30 @@ abbrev pub number_told : BatchReason → ℕ
 number_told (reasons.ForeignSession named own) = 1
 number_told reasons.SessionClosed = 2
 number_told (reasons.DeclaredLimits w a b c d) = 4
-number_told (reasons.Unreadable rule inside p) = reading_number_told rule
+number_told (reasons.Unreadable stop) = reading_number_told stop.rule
 number_told (reasons.HasFindings place n k d s) = 11
 number_told (reasons.CountsDiffer a b c d) = 5
 number_told (reasons.ReferencesOver a b) = 4
 number_told (reasons.UnknownTarget n i j) = 6
 number_told (reasons.CursorMismatch t) = 7
 number_told (reasons.OperationFails i j r) = operation_number_told r
+
+reading_is : (r : ReadingRule) (i : Inside) (p : ℕ) → reading_number_told r ≡ reason_number (unreadable (record { rule = reading_rule_of r; inside = i; position = p }))
+reading_is readings.SetTooLong i p = refl
+reading_is readings.WrongHeading i p = refl
+reading_is readings.TooFewBytes i p = refl
+reading_is readings.OperationTag i p = refl
+reading_is readings.ValueKind i p = refl
+reading_is readings.OptionalTag i p = refl
+reading_is readings.AvailabilityTag i p = refl
+reading_is readings.QuadTag i p = refl
+reading_is readings.ScoreRange i p = refl
+reading_is readings.NotUtf8 i p = refl
+reading_is readings.PatchCount i p = refl
+reading_is readings.OperationCount i p = refl
+reading_is readings.TextLength i p = refl
+reading_is readings.CharacterCount i p = refl
+reading_is readings.BytesLeft i p = refl
 
 -- it is the number of the refusal that the reason is behind
 pub number_is : (r : BatchReason) → number_told r ≡ reason_number (printed_reason_of r)
@@ -57,21 +76,7 @@ number_is (reasons.CountsDiffer a b c d) = refl
 number_is (reasons.ReferencesOver a b) = refl
 number_is (reasons.UnknownTarget n i j) = refl
 number_is (reasons.CursorMismatch t) = refl
-number_is (reasons.Unreadable readings.SetTooLong inside p) = refl
-number_is (reasons.Unreadable readings.WrongHeading inside p) = refl
-number_is (reasons.Unreadable readings.TooFewBytes inside p) = refl
-number_is (reasons.Unreadable readings.OperationTag inside p) = refl
-number_is (reasons.Unreadable readings.ValueKind inside p) = refl
-number_is (reasons.Unreadable readings.OptionalTag inside p) = refl
-number_is (reasons.Unreadable readings.AvailabilityTag inside p) = refl
-number_is (reasons.Unreadable readings.QuadTag inside p) = refl
-number_is (reasons.Unreadable readings.ScoreRange inside p) = refl
-number_is (reasons.Unreadable readings.NotUtf8 inside p) = refl
-number_is (reasons.Unreadable readings.PatchCount inside p) = refl
-number_is (reasons.Unreadable readings.OperationCount inside p) = refl
-number_is (reasons.Unreadable readings.TextLength inside p) = refl
-number_is (reasons.Unreadable readings.CharacterCount inside p) = refl
-number_is (reasons.Unreadable readings.BytesLeft inside p) = refl
+number_is (reasons.Unreadable stop) = reading_is stop.rule (inside_of stop.inside) stop.at
 number_is (reasons.OperationFails i j rules.KeyPresent) = refl
 number_is (reasons.OperationFails i j rules.KeyAbsent) = refl
 number_is (reasons.OperationFails i j rules.NeighbourAbsent) = refl

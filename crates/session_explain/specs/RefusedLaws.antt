@@ -28,8 +28,8 @@ use Rattle.local_projection_state.specs.declared.LocalProjectionApplicationError
 use Rattle.projection_patch.specs.declared.read_values.ProjectionPatchReadFault.{ProjectionPatchReadFault}
 use Rattle.session_explain.specs.Reasons.{operation_rule_to}
 use Rattle.session_explain.specs.Refused.{StandsFor, reason_refused_to}
-use Rattle.session_explain.specs.declared.operations.FirstRefused.{FirstRefused}
-use Rattle.session_explain.specs.declared.operations.FirstRefused.TheVariants as refused
+use Rattle.std.specs.Prelude as code
+use Rattle.std.specs.Prelude.{Result, Ok}
 use Rattle.session_explain.specs.declared.reasons.OperationRule.{OperationRule}
 
 -- ---- values are not looked at
@@ -60,11 +60,11 @@ module _ (r : Resolution) where
 module _ {ed : Edition} {set : List ℕ} {count : ℕ} {c : SetCursor} {h : Halt Projection} (k : HaltsAt ed set count c h) {n : ℕ} {e : List ℕ} (s : StandsFor n e h.left) where
   -- told by its place and its rule
   pub halt_told : {x : ProjectionPatchOperation} {d : SetCursor} → Visited ed set c (h.refused ∷ k.later) k.rest x d → (patch index : ℕ) (rule : OperationRule) → patch ≡ patch_index count c → index ≡ operation_index c
-      → rule ≡ operation_rule_to (rule_of s.plan (operation_of (lent_from set c.at) x)) → refused.Refused patch index rule ≡ reason_refused_to (halted h)
+      → rule ≡ operation_rule_to (rule_of s.plan (operation_of (lent_from set c.at) x)) → Ok (code.Some (patch, (index, rule))) ≡ reason_refused_to (halted h)
   halt_told {x} v patch index rule patch_is index_is rule-is =
       let read : operation_of (lent_from set c.at) x ≡ h.refused = v.means ∙ sym (head-eq_of_cons-eq v.is) in
       let told : rule ≡ operation_rule_to (rule_of h.left h.refused) = rule-is ∙ ap operation_rule_to (ap (rule_of s.plan) read ∙ sym (resolved_rule s.sources s.plan h.refused) ∙ ap (λ (q : Projection). rule_of q h.refused) s.resolves) in
-      ap₂ (λ (i j : ℕ). refused.Refused i j rule) (patch_is ∙ sym k.patch) (index_is ∙ sym k.operation) ∙ ap (refused.Refused h.patch h.operation) told
+      ap₂ (λ (i j : ℕ). Ok (code.Some (i, (j, rule)))) (patch_is ∙ sym k.patch) (index_is ∙ sym k.operation) ∙ ap (λ (r : OperationRule). Ok (code.Some (h.patch, (h.operation, r)))) told
 
 -- ---- what a run answers
 
@@ -75,14 +75,14 @@ module _ {ed : Edition} {p : Projection} {ps : List Patch} {set b a e : List ℕ
   abbrev Walked : PlanRun → Walk Projection → Type 0
   Walked = RunWalked (PlannedAs ed p set b a e) (HaltsAt ed set (length ps))
 
-  pub explained_applies : (n : ProjectionCounts) → r ≡ plan.Planned n → refused.AllApply ≡ reason_refused_to whole
+  pub explained_applies : (n : ProjectionCounts) → r ≡ plan.Planned n → Ok code.None ≡ reason_refused_to whole
   explained_applies n is = go whole (subst (λ y. Walked y whole) is told.walked)
     where
-      go : (w : Walk Projection) → Walked (plan.Planned n) w → refused.AllApply ≡ reason_refused_to w
+      go : (w : Walk Projection) → Walked (plan.Planned n) w → Ok code.None ≡ reason_refused_to w
       go (through q) t = refl
       go (halted h) t = absurd t
 
-  pub walked_halts : (f : LocalProjectionApplicationError) (c : SetCursor) (n : ProjectionCounts) → r ≡ plan.Refused f c n → (y : FirstRefused)
+  pub walked_halts : (f : LocalProjectionApplicationError) (c : SetCursor) (n : ProjectionCounts) → r ≡ plan.Refused f c n → (y : Result (code.Option (ℕ × (ℕ × OperationRule))) ProjectionPatchReadFault)
       → ((h : Halt Projection) → HaltsAt ed set (length ps) c h → StandsFor n.entries e h.left → y ≡ reason_refused_to (halted h)) → y ≡ reason_refused_to whole
   walked_halts f c n is y at = go whole (subst (λ z. Walked z whole) is told.walked)
     where

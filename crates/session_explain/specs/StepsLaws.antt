@@ -1,6 +1,6 @@
 -- The steps by what they look at are the steps of `explain_steps`, and what the searches answer gives their reasons.
 use Rattle.std.specs.Prelude as code
-use Rattle.std.specs.Prelude.{ℕ, ◌+◌, Bool, ◌&&◌, ◌||◌, get_or, if◌then◌else◌}
+use Rattle.std.specs.Prelude.{ℕ, Result, Ok, Err, ◌+◌, Bool, ◌&&◌, ◌||◌, get_or, if◌then◌else◌}
 use Rattle.std.proofs.Math.Path.{◌≡◌, refl, sym, ap, ap₂}
 use Rattle.std.proofs.Common.{◌∙◌, subst, arith}
 use Rattle.std.proofs.Math.Bool.{true, false, not}
@@ -57,8 +57,6 @@ use Rattle.session_explain.specs.Reasons.{reason_to, found_to, step_to, explanat
 use Rattle.session_explain.specs.Steps.{declared_by, explain_preflight_by, references_by, explain_counts_by, explain_replay_by, clean_by, set_by, checks_by}
 use Rattle.session_explain.specs.declared.reasons.BatchReason.{BatchReason}
 use Rattle.session_explain.specs.declared.reasons.BatchReason.TheVariants as reasons
-use Rattle.session_explain.specs.declared.reasons.StepReason.{StepReason}
-use Rattle.session_explain.specs.declared.reasons.StepReason.TheVariants as steps
 use Rattle.session_explain.specs.declared.reasons.BatchExplanation.TheVariants as explanations
 
 -- ---- one after the other
@@ -113,65 +111,84 @@ module _ (ps : List Patch) {p : CheckPlace} {n w : ℕ} (told : set-check.Checke
   unfolding checked_list
   placed = cc
 
-  pub findings_none : n ≡ 0 → steps.Fine ≡ step_to (no_findings (findings ps).place (findings ps).found)
+  pub findings_none : n ≡ 0 → Ok tt ≡ step_to (no_findings (findings ps).place (findings ps).found)
   unfolding no_findings
   findings_none z = go (findings ps).found (sym counted ∙ z)
     where
-      go : (fs : List Finding) → length fs ≡ 0 → steps.Fine ≡ step_to (no_findings (findings ps).place fs)
+      go : (fs : List Finding) → length fs ≡ 0 → Ok tt ≡ step_to (no_findings (findings ps).place fs)
       go [] e = refl
       go (f ∷ fs) e = absurd (omega arith)
 
   pub findings_first : (n ≡ 0 → ⊥) → (out : List ℕ) → out ≡ write_findings (findings ps).found (0 ∷ 0 ∷ 0 ∷ [])
-      → steps.Because (reasons.HasFindings p n (get_or out 0 0) (get_or out 1 0) (get_or out 2 0)) ≡ step_to (no_findings (findings ps).place (findings ps).found)
+      → Err (reasons.HasFindings p n (get_or out 0 0) (get_or out 1 0) (get_or out 2 0)) ≡ step_to (no_findings (findings ps).place (findings ps).found)
   unfolding no_findings
   findings_first some_found out is = go (findings ps).found counted is
     where
-      go : (fs : List Finding) → n ≡ length fs → out ≡ write_findings fs (0 ∷ 0 ∷ 0 ∷ []) → steps.Because (reasons.HasFindings p n (get_or out 0 0) (get_or out 1 0) (get_or out 2 0)) ≡ step_to (no_findings (findings ps).place fs)
+      go : (fs : List Finding) → n ≡ length fs → out ≡ write_findings fs (0 ∷ 0 ∷ 0 ∷ []) → Err (reasons.HasFindings p n (get_or out 0 0) (get_or out 1 0) (get_or out 2 0)) ≡ step_to (no_findings (findings ps).place fs)
       go [] e h = absurd (some_found e)
       go (f ∷ fs) e h = rw (placed, e, h, first_written f fs)
 
-pub findings_unread : (ps : List Patch) {f : ProjectionPatchReadFault} {r : StepReason} → set-check.Refused f ≡ checked_to (checked_list ps 3) → r ≡ step_to (no_findings (findings ps).place (findings ps).found)
+pub findings_unread : (ps : List Patch) {f : ProjectionPatchReadFault} {r : Result (Unit {0}) BatchReason} → set-check.Refused f ≡ checked_to (checked_list ps 3) → r ≡ step_to (no_findings (findings ps).place (findings ps).found)
 findings_unread ps h = absurd (let z : ◌≡◌ {A = ℕ} 0 1 = cc in omega arith)
 
 -- ---- the cursor
 
 module _ (c : Cursor) (e : BatchEnvelope) (g : BatchGate) (told : gate_of g ≡ gates.replay_by c e) where
-  pub replay_passed : g ≡ gate.Passed → steps.Fine ≡ step_to (explain_replay_by c e)
+  pub replay_passed : g ≡ gate.Passed → Ok tt ≡ step_to (explain_replay_by c e)
   unfolding explain_replay_by gates.replay_by gate_of require_or batching.require
   replay_passed is = go (eqb e.patches 0 || takes_number c e.sequence) (sym (ap gate_of is) ∙ told)
     where
-      go : (t : Bool) → pass tt ≡ batching.require t session.cursor_mismatch → steps.Fine ≡ step_to (require_or t (cursor_mismatch (next_number c)))
+      go : (t : Bool) → pass tt ≡ batching.require t session.cursor_mismatch → Ok tt ≡ step_to (require_or t (cursor_mismatch (next_number c)))
       go true h = refl
       go false h = absurd (let z : ◌≡◌ {A = ℕ} 0 1 = cc in omega arith)
 
-  pub replay_refused : {r : ShellRefusal} {n : ℕ} → g ≡ gate.Refused r n → (o : code.Option ℕ) → o ≡ optional_to (next_number c) → steps.Because (reasons.CursorMismatch o) ≡ step_to (explain_replay_by c e)
+  pub replay_refused : {r : ShellRefusal} {n : ℕ} → g ≡ gate.Refused r n → (o : code.Option ℕ) → o ≡ optional_to (next_number c) → Err (reasons.CursorMismatch o) ≡ step_to (explain_replay_by c e)
   unfolding explain_replay_by gates.replay_by gate_of require_or batching.require
-  replay_refused {r} {n} is o after = ap (λ x. steps.Because (reasons.CursorMismatch x)) after ∙ go (eqb e.patches 0 || takes_number c e.sequence) (sym (ap gate_of is) ∙ told)
+  replay_refused {r} {n} is o after = ap (λ x. Err (reasons.CursorMismatch x)) after ∙ go (eqb e.patches 0 || takes_number c e.sequence) (sym (ap gate_of is) ∙ told)
     where
-      go : (t : Bool) → refuse (refusal_of r) n ≡ batching.require t session.cursor_mismatch → steps.Because (reasons.CursorMismatch (optional_to (next_number c))) ≡ step_to (require_or t (cursor_mismatch (next_number c)))
+      go : (t : Bool) → refuse (refusal_of r) n ≡ batching.require t session.cursor_mismatch → Err (reasons.CursorMismatch (optional_to (next_number c))) ≡ step_to (require_or t (cursor_mismatch (next_number c)))
       go true h = absurd (let z : ◌≡◌ {A = ℕ} 0 1 = cc in omega arith)
       go false h = refl
 
 -- ---- several steps
 
 module _ (c : Catalogue) (l : Limits) (cursor : Cursor) (e : BatchEnvelope) (declared n k absent : ℕ) (ps : List Patch) where
-  pub clean_by_is : {counts known taken both r : StepReason} → counts ≡ step_to (explain_counts_by l e declared n k) → known ≡ step_to (targets_known absent (walk_patches (tested (target_known c)) 0 tt ps)) → taken ≡ step_to (explain_replay_by cursor e)
-      → both ≡ first_to known taken → r ≡ first_to counts both → r ≡ step_to (clean_by c l cursor e declared n k absent ps)
-  unfolding clean_by
-  clean_by_is counted known taken both r =
-      let targets = targets_known absent (walk_patches (tested (target_known c)) 0 tt ps) in
-      r ∙ ap₂ first_to counted (both ∙ ap₂ first_to known taken ∙ first_then targets (explain_replay_by cursor e)) ∙ first_then (explain_counts_by l e declared n k) (targets >> explain_replay_by cursor e)
+  abbrev Clean : Result (Unit {0}) BatchReason
+  Clean = step_to (clean_by c l cursor e declared n k absent ps)
 
-module _ (ed : Edition) (id : ℕ) (l : Limits) (life : Lifecycle) (cursor : Cursor) (c : Catalogue) (e : BatchEnvelope) (declared : ℕ) (set : List ℕ) {pre : StepReason} (told : pre ≡ step_to (explain_preflight_by id l life e)) where
+  module _ {counts : Result (Unit {0}) BatchReason} (counted : counts ≡ step_to (explain_counts_by l e declared n k)) where
+    after_counts : first_to counts (step_to (targets_known absent (walk_patches (tested (target_known c)) 0 tt ps) >> explain_replay_by cursor e)) ≡ Clean
+    unfolding clean_by
+    after_counts =
+        let rest = targets_known absent (walk_patches (tested (target_known c)) 0 tt ps) >> explain_replay_by cursor e in
+        ap (λ (x : Result (Unit {0}) BatchReason). first_to x (step_to rest)) counted ∙ first_then (explain_counts_by l e declared n k) rest
+
+    pub clean_counts : {r : BatchReason} → counts ≡ Err r → Err r ≡ Clean
+    clean_counts is = sym (ap (λ (x : Result (Unit {0}) BatchReason). first_to x (step_to (targets_known absent (walk_patches (tested (target_known c)) 0 tt ps) >> explain_replay_by cursor e))) is) ∙ after_counts
+
+    module _ (is : counts ≡ Ok tt) {known : Result (Unit {0}) BatchReason} (told : known ≡ step_to (targets_known absent (walk_patches (tested (target_known c)) 0 tt ps))) where
+      after_targets : first_to known (step_to (explain_replay_by cursor e)) ≡ Clean
+      after_targets =
+          let targets = targets_known absent (walk_patches (tested (target_known c)) 0 tt ps) in
+          ap (λ (x : Result (Unit {0}) BatchReason). first_to x (step_to (explain_replay_by cursor e))) told ∙ first_then targets (explain_replay_by cursor e)
+          ∙ sym (ap (λ (x : Result (Unit {0}) BatchReason). first_to x (step_to (targets >> explain_replay_by cursor e))) is) ∙ after_counts
+
+      pub clean_targets : {r : BatchReason} → known ≡ Err r → Err r ≡ Clean
+      clean_targets h = sym (ap (λ (x : Result (Unit {0}) BatchReason). first_to x (step_to (explain_replay_by cursor e))) h) ∙ after_targets
+
+      pub clean_taken : known ≡ Ok tt → {taken : Result (Unit {0}) BatchReason} → taken ≡ step_to (explain_replay_by cursor e) → taken ≡ Clean
+      clean_taken h takes = takes ∙ sym (ap (λ (x : Result (Unit {0}) BatchReason). first_to x (step_to (explain_replay_by cursor e))) h) ∙ after_targets
+
+module _ (ed : Edition) (id : ℕ) (l : Limits) (life : Lifecycle) (cursor : Cursor) (c : Catalogue) (e : BatchEnvelope) (declared : ℕ) (set : List ℕ) {pre : Result (Unit {0}) BatchReason} (told : pre ≡ step_to (explain_preflight_by id l life e)) where
   whole : first_to pre (step_to (set_by ed c l cursor e declared set)) ≡ step_to (checks_by ed id l life cursor c e declared set)
   unfolding checks_by
-  whole = ap (λ (x : StepReason). first_to x (step_to (set_by ed c l cursor e declared set))) told ∙ first_then (explain_preflight_by id l life e) (set_by ed c l cursor e declared set)
+  whole = ap (λ (x : Result (Unit {0}) BatchReason). first_to x (step_to (set_by ed c l cursor e declared set))) told ∙ first_then (explain_preflight_by id l life e) (set_by ed c l cursor e declared set)
 
-  pub checks_because : {r : BatchReason} → pre ≡ steps.Because r → steps.Because r ≡ step_to (checks_by ed id l life cursor c e declared set)
-  checks_because is = sym (ap (λ (x : StepReason). first_to x (step_to (set_by ed c l cursor e declared set))) is) ∙ whole
+  pub checks_because : {r : BatchReason} → pre ≡ Err r → Err r ≡ step_to (checks_by ed id l life cursor c e declared set)
+  checks_because is = sym (ap (λ (x : Result (Unit {0}) BatchReason). first_to x (step_to (set_by ed c l cursor e declared set))) is) ∙ whole
 
-  pub checks_fine : {r : StepReason} → pre ≡ steps.Fine → r ≡ step_to (set_by ed c l cursor e declared set) → r ≡ step_to (checks_by ed id l life cursor c e declared set)
-  checks_fine is by = by ∙ sym (ap (λ (x : StepReason). first_to x (step_to (set_by ed c l cursor e declared set))) is) ∙ whole
+  pub checks_fine : {r : Result (Unit {0}) BatchReason} → pre ≡ Ok tt → r ≡ step_to (set_by ed c l cursor e declared set) → r ≡ step_to (checks_by ed id l life cursor c e declared set)
+  checks_fine is by = by ∙ sym (ap (λ (x : Result (Unit {0}) BatchReason). first_to x (step_to (set_by ed c l cursor e declared set))) is) ∙ whole
 
 -- ---- the set
 
@@ -198,7 +215,7 @@ module _ (ed : Edition) (set nodes bindings collections : List ℕ) where
       go (some u) (fault f) l r (stops v g is) = unread (fault_to f) u l
 
   module _ (c : Catalogue) (lent : Lent c nodes bindings collections) (l : Limits) (cursor : Cursor) (e : BatchEnvelope) (declared : ℕ) {i : SetInspection} (told : i ≡ inspection_answer nodes bindings collections (read_set ed set)) where
-    abbrev Whole : StepReason
+    abbrev Whole : Result (Unit {0}) BatchReason
     Whole = step_to (set_by ed c l cursor e declared set)
 
     here : Inspected i
@@ -213,7 +230,7 @@ module _ (ed : Edition) (set nodes bindings collections : List ℕ) where
         go j (some_found ps r l f fs e) is = absurd (let z : ◌≡◌ {A = ℕ} 0 1 = cc in omega arith)
         go j (clean ps r l e) is = absurd (let z : ◌≡◌ {A = ℕ} 0 1 = cc in omega arith)
 
-    pub set_found : i ≡ inspection.Found → (r : StepReason) → ((ps : List Patch) → read_set ed set ≡ patches ps → r ≡ step_to (no_findings (findings ps).place (findings ps).found)) → r ≡ Whole
+    pub set_found : i ≡ inspection.Found → (r : Result (Unit {0}) BatchReason) → ((ps : List Patch) → read_set ed set ≡ patches ps → r ≡ step_to (no_findings (findings ps).place (findings ps).found)) → r ≡ Whole
     unfolding set_by patches_readable patches_read no_findings
     set_found is r by = go i here is
       where
@@ -222,7 +239,7 @@ module _ (ed : Edition) (set nodes bindings collections : List ℕ) where
         go j (some_found ps s l f fs e) is = by ps s ∙ rw (l, s, e)
         go j (clean ps s l e) is = absurd (let z : ◌≡◌ {A = ℕ} 0 1 = cc in omega arith)
 
-    pub set_clean : {n k absent : ℕ} → i ≡ inspection.Clean n k absent → (r : StepReason) → ((ps : List Patch) → read_set ed set ≡ patches ps → r ≡ step_to (clean_by c l cursor e declared n k absent ps)) → r ≡ Whole
+    pub set_clean : {n k absent : ℕ} → i ≡ inspection.Clean n k absent → (r : Result (Unit {0}) BatchReason) → ((ps : List Patch) → read_set ed set ≡ patches ps → r ≡ step_to (clean_by c l cursor e declared n k absent ps)) → r ≡ Whole
     unfolding set_by patches_readable patches_read no_findings
     set_clean {n} {k} {absent} is r by = go i here is
       where
@@ -282,14 +299,14 @@ module _ (ed : Edition) (s : Session) (e : BatchEnvelope) (declared : ℕ) (set 
       (explain_replay_by s.cursor e) (operation_steps qs))))
 
   -- a set that passes the checks is read
-  pub checks_read : step_to check_steps ≡ steps.Fine → (ps : List Patch) × (read_set ed set ≡ patches ps)
+  pub checks_read : step_to check_steps ≡ Ok tt → (ps : List Patch) × (read_set ed set ≡ patches ps)
   unfolding checks_by set_by patches_readable
   checks_read is = go (explain_preflight_by s.id s.limits s.lifecycle e) (locate ed set) (read_set ed set) refl (locate_agrees ed set) is
     where
       after : List Patch → Explained (Unit {0})
       after ps = no_findings (findings ps).place (findings ps).found >> clean_by s.catalogue s.limits s.cursor e declared (length ps) (length (operations_of ps)) (absent_targets s.catalogue (operations_of ps)) ps
 
-      go : (a : Explained (Unit {0})) (o : Option Unread) (x : SetReading) → read_set ed set ≡ x → Agrees ed o x → step_to (a >> (patches_readable o (patches_read x) >>= after)) ≡ steps.Fine → (ps : List Patch) × (read_set ed set ≡ patches ps)
+      go : (a : Explained (Unit {0})) (o : Option Unread) (x : SetReading) → read_set ed set ≡ x → Agrees ed o x → step_to (a >> (patches_readable o (patches_read x) >>= after)) ≡ Ok tt → (ps : List Patch) × (read_set ed set ≡ patches ps)
       go (fine u) (some v) (patches ps) q g h = elim g [ ]
       go (fine u) none (fault f) q g h = elim g [ ]
       go (because r) o x q g h = absurd (let z : ◌≡◌ {A = ℕ} 0 1 = cc in omega arith)

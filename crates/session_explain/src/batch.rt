@@ -2,7 +2,7 @@
 // the session first.
 ghost use Rattle.std.specs.Prelude.{◌≡◌};
 ghost use Rattle.spec_session.specs.Session.{Session};
-ghost use Rattle.spec_explain.specs.Explain.{explain};
+ghost use Rattle.spec_explain.specs.Explain.{explain_steps, explain};
 ghost use Rattle.projection_patch.specs.Meaning.{edition_of};
 ghost use Rattle.active_projection_target_catalog.specs.Catalog.{catalogue_of};
 ghost use Rattle.session_lifecycle.specs.Meaning.{lifecycle_of, cursor_of, limits_of};
@@ -11,7 +11,7 @@ ghost use Rattle.shell_player.specs.Holds.{Holds};
 ghost use Rattle.session_explain.specs.Reasons.{step_to, explanation_to};
 ghost use Rattle.session_explain.specs.Steps.{checks_by};
 
-use crate::reasons::{BatchExplanation, StepReason};
+use crate::reasons::{BatchExplanation, BatchReason};
 use crate::{checks, operations, reasons};
 use projection_patch::patch::ProjectionPatchEdition;
 use session_gates::gates::OrderedProjectionPatchBatchEnvelope;
@@ -27,11 +27,9 @@ fn explain_session(
     declared: u64,
     set: &[u8],
     edition: ProjectionPatchEdition,
-) -> StepReason
+) -> Result<(), BatchReason>
     ensures { result ≡ step_to (checks_by (edition_of edition) context.session_id.0 (limits_of context.limits) (lifecycle_of state.lifecycle) (cursor_of state.replay_cursor) (catalogue_of context.catalog) (batch_envelope_of envelope) declared set.now) }
 {
-    let session_id = context.session_id;
-    let limits = context.limits;
     let lent = session_steps::checks::lent_anchors(context.catalog);
     let nodes = lent.nodes;
     let bindings = lent.bindings;
@@ -40,8 +38,8 @@ fn explain_session(
     let binding_numbers = lent.binding_numbers;
     let collection_count = lent.collection_count;
     checks::explain_checks(
-        session_id.0,
-        limits,
+        context.session_id.0,
+        context.limits,
         state,
         &nodes[0..node_count],
         &bindings[0..binding_numbers],
@@ -51,6 +49,27 @@ fn explain_session(
         set,
         edition,
     )
+}
+
+// All steps, in their order.
+fn explain_steps(
+    session: ShellSession,
+    envelope: OrderedProjectionPatchBatchEnvelope,
+    declared: u64,
+    set: &[u8],
+    edition: ProjectionPatchEdition,
+) -> Result<(), BatchReason>
+    ensures { (m : Session) → Holds session m → result ≡ step_to (explain_steps (edition_of edition) m (batch_envelope_of envelope) declared set.now) }
+{
+    explain_session(
+        session.context,
+        session.state,
+        envelope,
+        declared,
+        set,
+        edition,
+    )?;
+    operations::explain_operations(session.local_projection, set, edition)
 }
 
 // Why the batch with these arguments is refused, if it is. It takes longer than the batch, and is for those who ask.
@@ -64,15 +83,7 @@ pub fn explain_batch(
     ensures { (m : Session) → Holds session m
         → result ≡ explanation_to (explain (edition_of edition) m (batch_envelope_of envelope) declared_target_reference_count set.now) }
 {
-    let context = session.context;
-    let limits = context.limits;
-    let cap = limits.max_diagnostics_per_transition;
-    let state = session.state;
+    let cap = session.context.limits.max_diagnostics_per_transition;
     let declared = declared_target_reference_count;
-    let checked = explain_session(context, state, envelope, declared, set, edition);
-    if let StepReason::Because(_) = checked {
-        return reasons::under_cap(cap, checked);
-    }
-    let applied = operations::explain_operations(session.local_projection, set, edition);
-    reasons::under_cap(cap, applied)
+    reasons::under_cap(cap, explain_steps(session, envelope, declared, set, edition))
 }

@@ -12,9 +12,8 @@ ghost use Rattle.session_gates.specs.Lent.{Lent};
 ghost use Rattle.session_explain.specs.Reasons.{step_to};
 ghost use Rattle.session_explain.specs.Steps.{clean_by, set_by, checks_by};
 
-use crate::reasons::{BatchReason, StepReason};
-use crate::targets::FirstUnknown;
-use crate::{gates, reading, reasons, targets};
+use crate::reasons::BatchReason;
+use crate::{gates, reading, targets};
 use check_quick::inspection;
 use check_quick::inspection::SetInspection;
 use projection_patch::patch::ProjectionPatchEdition;
@@ -29,16 +28,13 @@ fn explain_targets(
     bindings: &[u64],
     collections: &[u64],
     absent: usize,
-) -> StepReason
+) -> Result<(), BatchReason>
     ensures { (c : Catalogue) (ps : List Patch) → Lent c nodes.now bindings.now collections.now → read_set (edition_of edition) set.now ≡ patches ps
         → result ≡ step_to (targets_known absent (walk_patches (tested (target_known c)) 0 tt ps)) }
 {
     match targets::first_unknown(set, edition, nodes, bindings, collections) {
-        FirstUnknown::AllKnown => StepReason::Fine,
-        FirstUnknown::Unknown { patch, operation } => StepReason::Because(
-            BatchReason::UnknownTarget(absent, patch, operation),
-        ),
-        FirstUnknown::Unreadable(_) => StepReason::Fine,
+        Ok(Some((patch, operation))) => Err(BatchReason::UnknownTarget(absent, patch, operation)),
+        Ok(None) | Err(_) => Ok(()),
     }
 }
 
@@ -56,20 +52,19 @@ fn explain_clean(
     patch_count: usize,
     operation_count: usize,
     absent: usize,
-) -> StepReason
+) -> Result<(), BatchReason>
     ensures { (c : Catalogue) (ps : List Patch) → Lent c nodes.now bindings.now collections.now → read_set (edition_of edition) set.now ≡ patches ps
         → result ≡ step_to (clean_by c (limits_of limits) (cursor_of cursor) (batch_envelope_of envelope) declared patch_count operation_count absent ps) }
 {
-    let counts = gates::explain_counts(
+    gates::explain_counts(
         limits,
         envelope,
         declared,
         patch_count as u64,
         operation_count as u64,
-    );
-    let known = explain_targets(set, edition, nodes, bindings, collections, absent);
-    let taken = gates::explain_cursor(cursor, envelope);
-    reasons::first_of(counts, reasons::first_of(known, taken))
+    )?;
+    explain_targets(set, edition, nodes, bindings, collections, absent)?;
+    gates::explain_cursor(cursor, envelope)
 }
 
 // Steps 4 to 8.
@@ -83,7 +78,7 @@ fn explain_set(
     declared: u64,
     set: &[u8],
     edition: ProjectionPatchEdition,
-) -> StepReason
+) -> Result<(), BatchReason>
     ensures { (c : Catalogue) → Lent c nodes.now bindings.now collections.now
         → result ≡ step_to (set_by (edition_of edition) c (limits_of limits) (cursor_of cursor) (batch_envelope_of envelope) declared set.now) }
 {
@@ -123,24 +118,20 @@ pub fn explain_checks(
     declared: u64,
     set: &[u8],
     edition: ProjectionPatchEdition,
-) -> StepReason
+) -> Result<(), BatchReason>
     ensures { (c : Catalogue) → Lent c nodes.now bindings.now collections.now
         → result ≡ step_to (checks_by (edition_of edition) id (limits_of limits) (lifecycle_of state.lifecycle) (cursor_of state.replay_cursor) c (batch_envelope_of envelope) declared set.now) }
 {
-    let lifecycle = state.lifecycle;
-    let cursor = state.replay_cursor;
-    match gates::explain_preflight(id, limits, lifecycle, envelope) {
-        StepReason::Because(reason) => StepReason::Because(reason),
-        StepReason::Fine => explain_set(
-            limits,
-            cursor,
-            nodes,
-            bindings,
-            collections,
-            envelope,
-            declared,
-            set,
-            edition,
-        ),
-    }
+    gates::explain_preflight(id, limits, state.lifecycle, envelope)?;
+    explain_set(
+        limits,
+        state.replay_cursor,
+        nodes,
+        bindings,
+        collections,
+        envelope,
+        declared,
+        set,
+        edition,
+    )
 }

@@ -7,7 +7,7 @@ ghost use Rattle.session_gates.specs.Gates.{batch_envelope_of};
 ghost use Rattle.session_explain.specs.Reasons.{over_to, step_to};
 ghost use Rattle.session_explain.specs.Steps.{declared_by, explain_preflight_by, references_by, explain_counts_by, explain_replay_by};
 
-use crate::reasons::{BatchReason, DeclaredLimit, StepReason};
+use crate::reasons::{BatchReason, DeclaredLimit};
 use session_gates::gates;
 use session_gates::gates::{BatchGate, OrderedProjectionPatchBatchEnvelope};
 use session_lifecycle::lifecycle;
@@ -18,35 +18,35 @@ fn over_declared(
     which: DeclaredLimit,
     limits: ShellLifecycleLimits,
     envelope: OrderedProjectionPatchBatchEnvelope,
-) -> StepReason
+) -> BatchReason
     ensures { result ≡ over_to which (limits_of limits) (batch_envelope_of envelope) }
 {
-    StepReason::Because(BatchReason::DeclaredLimits(
+    BatchReason::DeclaredLimits(
         which,
         envelope.patch_count,
         limits.max_patches_per_transition,
         envelope.stimulus_bytes,
         limits.max_transition_stimulus_bytes,
-    ))
+    )
 }
 
 // Step 3: the declared figures are within their limits.
 fn explain_declared(
     limits: ShellLifecycleLimits,
     envelope: OrderedProjectionPatchBatchEnvelope,
-) -> StepReason
+) -> Result<(), BatchReason>
     ensures { result ≡ step_to (declared_by (limits_of limits) (batch_envelope_of envelope)) }
 {
     if limits.max_patches_per_transition < envelope.patch_count {
         if limits.max_transition_stimulus_bytes < envelope.stimulus_bytes {
-            return over_declared(DeclaredLimit::Both, limits, envelope);
+            return Err(over_declared(DeclaredLimit::Both, limits, envelope));
         }
-        return over_declared(DeclaredLimit::Patches, limits, envelope);
+        return Err(over_declared(DeclaredLimit::Patches, limits, envelope));
     }
     if limits.max_transition_stimulus_bytes < envelope.stimulus_bytes {
-        return over_declared(DeclaredLimit::Bytes, limits, envelope);
+        return Err(over_declared(DeclaredLimit::Bytes, limits, envelope));
     }
-    StepReason::Fine
+    Ok(())
 }
 
 // Steps 1 to 3: the session's own id, a lifecycle that is not Closed, declared figures within their limits.
@@ -55,34 +55,34 @@ pub fn explain_preflight(
     limits: ShellLifecycleLimits,
     lifecycle: ShellLifecycle,
     envelope: OrderedProjectionPatchBatchEnvelope,
-) -> StepReason
+) -> Result<(), BatchReason>
     ensures { result ≡ step_to (explain_preflight_by id (limits_of limits) (lifecycle_of lifecycle) (batch_envelope_of envelope)) }
 {
     let session_id = envelope.session_id;
     if session_id.0 != id {
-        return StepReason::Because(BatchReason::ForeignSession {
+        return Err(BatchReason::ForeignSession {
             named: session_id.0,
             own: id,
         });
     }
     if lifecycle::is_closed(lifecycle) {
-        return StepReason::Because(BatchReason::SessionClosed);
+        return Err(BatchReason::SessionClosed);
     }
     explain_declared(limits, envelope)
 }
 
 // Step 6: the target references are within their limit.
-fn explain_references(limits: ShellLifecycleLimits, references: u64) -> StepReason
+fn explain_references(limits: ShellLifecycleLimits, references: u64) -> Result<(), BatchReason>
     ensures { result ≡ step_to (references_by (limits_of limits) references) }
 {
     let limit = limits.max_target_references_per_transition;
     if limit < references {
-        return StepReason::Because(BatchReason::ReferencesOver {
+        return Err(BatchReason::ReferencesOver {
             actual: references,
             limit,
         });
     }
-    StepReason::Fine
+    Ok(())
 }
 
 // Steps 5 and 6: both declared counts are the actual ones.
@@ -92,7 +92,7 @@ pub fn explain_counts(
     declared: u64,
     patches: u64,
     references: u64,
-) -> StepReason
+) -> Result<(), BatchReason>
     ensures { result ≡ step_to (explain_counts_by (limits_of limits) (batch_envelope_of envelope) declared patches references) }
 {
     if envelope.patch_count == patches {
@@ -100,7 +100,7 @@ pub fn explain_counts(
             return explain_references(limits, references);
         }
     }
-    StepReason::Because(BatchReason::CountsDiffer(
+    Err(BatchReason::CountsDiffer(
         envelope.patch_count,
         patches,
         declared,
@@ -127,12 +127,12 @@ fn number_after(cursor: ProjectionReplayCursor) -> Option<u64>
 pub fn explain_cursor(
     cursor: ProjectionReplayCursor,
     envelope: OrderedProjectionPatchBatchEnvelope,
-) -> StepReason
+) -> Result<(), BatchReason>
     ensures { result ≡ step_to (explain_replay_by (cursor_of cursor) (batch_envelope_of envelope)) }
 {
     match gates::evaluate_replay_compatibility(cursor, envelope) {
-        BatchGate::Passed => StepReason::Fine,
-        BatchGate::Refused(_, _) => StepReason::Because(BatchReason::CursorMismatch {
+        BatchGate::Passed => Ok(()),
+        BatchGate::Refused(_, _) => Err(BatchReason::CursorMismatch {
             takes: number_after(cursor),
         }),
     }

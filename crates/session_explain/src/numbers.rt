@@ -48,7 +48,7 @@ pub fn number_of(reason: BatchReason) -> u64
         BatchReason::ForeignSession { .. } => 1,
         BatchReason::SessionClosed => 2,
         BatchReason::DeclaredLimits(_, _, _, _, _) => 4,
-        BatchReason::Unreadable(rule, _, _) => reading_number(rule),
+        BatchReason::Unreadable(stop) => reading_number(stop.rule),
         BatchReason::HasFindings(_, _, _, _, _) => 11,
         BatchReason::CountsDiffer(_, _, _, _) => 5,
         BatchReason::ReferencesOver { .. } => 4,

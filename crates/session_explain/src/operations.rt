@@ -16,7 +16,7 @@ ghost use Rattle.panel_steps.specs.Runs.{HaltsAt};
 ghost use Rattle.session_explain.specs.Refused.{StandsFor, reason_refused_to};
 ghost use Rattle.session_explain.specs.Reasons.{step_to};
 
-use crate::reasons::{BatchReason, OperationRule, StepReason};
+use crate::reasons::{BatchReason, OperationRule};
 use crate::rules;
 use bytes_records::moves;
 use local_projection_state::{LocalProjectionState, ProjectionCounts};
@@ -26,19 +26,14 @@ use patch_walk::{SetCursor, SetOpening, SetStep};
 use projection_patch::patch::ProjectionPatchEdition;
 use projection_patch::read_values::ProjectionPatchReadFault;
 
-// The operation by its patch and its index there, with its rule; or that all apply.
-#[derive(Drop)]
-pub enum FirstRefused {
-    AllApply,
-    Refused(usize, usize, OperationRule),
-    Unreadable(ProjectionPatchReadFault),
-}
+// The operation that fails, by its patch and its index there, with its rule; none where all apply.
+type FirstRefused = Result<Option<(usize, usize, OperationRule)>, ProjectionPatchReadFault>;
 
 // How many of a count are passed where so many are left.
 fn passed(count: usize, left: usize) -> usize
     ensures { result ≡ count - left }
 {
-    if count < left { 0 } else { count - left }
+    count.saturating_sub(left)
 }
 
 // The operation at a cursor in a set of so many patches, and the rule that it breaks on the planned entries, of one that was refused there.
@@ -55,12 +50,12 @@ fn refused_at(
 {
     let step = patch_walk::next_step(set, cursor, false, edition);
     let SetStep::Operation(operation, _) = step else {
-        return FirstRefused::Unreadable(ProjectionPatchReadFault::Malformed);
+        return Err(ProjectionPatchReadFault::Malformed);
     };
     let rule = rules::rule_of(entries, count, operation);
     let patch = passed(passed(patches, cursor.patches_left), 1);
     let index = passed(cursor.operation_count, cursor.operations_left);
-    FirstRefused::Refused(patch, index, rule)
+    Ok(Some((patch, index, rule)))
 }
 
 // Plans the operations from a cursor on, as a batch does, and tells the first that is refused.
@@ -78,7 +73,7 @@ fn refused_from(
         → result ≡ reason_refused_to (walk_patches step_kept 0 p ps) }
 {
     match panel_steps::plan_steps(bindings, availability, entries, counts, set, edition, from) {
-        PlanRun::Planned(_) => FirstRefused::AllApply,
+        PlanRun::Planned(_) => Ok(None),
         PlanRun::Refused(_, cursor, held) => refused_at(
             entries,
             held.entries,
@@ -87,7 +82,7 @@ fn refused_from(
             from.patches_left,
             cursor,
         ),
-        PlanRun::Unreadable(fault) => FirstRefused::Unreadable(fault),
+        PlanRun::Unreadable(fault) => Err(fault),
     }
 }
 
@@ -104,7 +99,7 @@ pub fn first_refused(
         → result ≡ reason_refused_to (walk_patches step_kept 0 p ps) }
 {
     if availability.len() != LocalProjectionState::AVAILABILITY_BYTES {
-        return FirstRefused::AllApply;
+        return Ok(None);
     }
     let mut plan_bindings = [0u8; panel_plan::BINDING_BYTES];
     let mut plan_availability = [0u8; LocalProjectionState::AVAILABILITY_BYTES];
@@ -122,7 +117,7 @@ pub fn first_refused(
             edition,
             start,
         ),
-        SetOpening::Refused(fault) => FirstRefused::Unreadable(fault),
+        SetOpening::Refused(fault) => Err(fault),
     }
 }
 
@@ -134,16 +129,15 @@ pub fn explain_tables(
     counts: ProjectionCounts,
     set: &[u8],
     edition: ProjectionPatchEdition,
-) -> StepReason
+) -> Result<(), BatchReason>
     ensures { (p : Projection) (ps : List Patch) → StoredTables counts bindings.now availability.now entries.now p → read_set (edition_of edition) set.now ≡ patches ps
         → result ≡ step_to (applies (walk_patches step_kept 0 p ps)) }
 {
     match first_refused(bindings, availability, entries, counts, set, edition) {
-        FirstRefused::AllApply => StepReason::Fine,
-        FirstRefused::Refused(patch, operation, rule) => StepReason::Because(
-            BatchReason::OperationFails(patch, operation, rule),
-        ),
-        FirstRefused::Unreadable(_) => StepReason::Fine,
+        Ok(Some((patch, operation, rule))) => Err(BatchReason::OperationFails(
+            patch, operation, rule,
+        )),
+        Ok(None) | Err(_) => Ok(()),
     }
 }
 
@@ -152,17 +146,14 @@ pub fn explain_operations(
     panel: LocalProjectionState,
     set: &[u8],
     edition: ProjectionPatchEdition,
-) -> StepReason
+) -> Result<(), BatchReason>
     ensures { (p : Projection) (ps : List Patch) → StoredTables panel.counts panel.bindings panel.availability panel.entries p → read_set (edition_of edition) set.now ≡ patches ps
         → result ≡ step_to (applies (walk_patches step_kept 0 p ps)) }
 {
-    let bindings = panel.bindings;
-    let availability = panel.availability;
-    let entries = panel.entries;
     explain_tables(
-        &bindings,
-        &availability,
-        &entries,
+        &panel.bindings,
+        &panel.availability,
+        &panel.entries,
         panel.counts,
         set,
         edition,

@@ -8,28 +8,22 @@ ghost use Rattle.spec_explain.specs.CallReasons.{explain_check};
 ghost use Rattle.projection_patch.specs.Meaning.{edition_of};
 ghost use Rattle.session_explain.specs.Reasons.{found_to, step_to};
 
-use crate::reasons::{BatchReason, StepReason};
+use crate::reasons::BatchReason;
 use check_set::check_set as checking;
 use check_set::check_set::PatchSetCheck;
 use check_set::list_set::FindingsListed;
 use patch_locate::set;
-use patch_locate::set::SetLocated;
 use projection_patch::patch::ProjectionPatchEdition;
 
 // Why a set is not checked: the rule by which its reading stops, and where.
-pub fn explain_check(set: &[u8], edition: ProjectionPatchEdition) -> StepReason
+pub fn explain_check(set: &[u8], edition: ProjectionPatchEdition) -> Result<(), BatchReason>
     ensures { result ≡ found_to (explain_check (edition_of edition) set.now) }
 {
-    match set::locate_set(set, edition) {
-        SetLocated::Read => StepReason::Fine,
-        SetLocated::Unread(rule, inside, position) => StepReason::Because(BatchReason::Unreadable(
-            rule, inside, position,
-        )),
-    }
+    Ok(set::locate_set(set, edition)?)
 }
 
 // The findings of a set that is known to be readable: where they are, how many, and the first record.
-pub fn explain_findings(set: &[u8], edition: ProjectionPatchEdition) -> StepReason
+pub fn explain_findings(set: &[u8], edition: ProjectionPatchEdition) -> Result<(), BatchReason>
     ensures { (ps : List Patch) → read_set (edition_of edition) set.now ≡ patches ps → result ≡ step_to (no_findings (findings ps).place (findings ps).found) }
 {
     let mut first = [0u64; FindingsListed::RECORD];
@@ -40,12 +34,12 @@ pub fn explain_findings(set: &[u8], edition: ProjectionPatchEdition) -> StepReas
             written: _,
         } => {
             if logical == 0 {
-                return StepReason::Fine;
+                return Ok(());
             }
-            StepReason::Because(BatchReason::HasFindings(
+            Err(BatchReason::HasFindings(
                 place, logical, first[0], first[1], first[2],
             ))
         }
-        PatchSetCheck::Refused(_) => StepReason::Fine,
+        PatchSetCheck::Refused(_) => Ok(()),
     }
 }

@@ -1,9 +1,10 @@
 // Why a batch is refused: the rule, and the figures that it went by.
 ghost use Rattle.std.specs.Prelude.{◌≡◌};
-ghost use Rattle.session_explain.specs.Reasons.{first_to, capped_to};
+ghost use Rattle.session_explain.specs.Reasons.{capped_to};
+ghost use Rattle.session_explain.specs.declared.reasons.BatchReason.TheVariants.{Unreadable};
 
 use check_set::check_set::CheckPlace;
-use patch_locate::rules::{Inside, ReadingRule};
+use patch_locate::rules::Stop;
 
 // Which of the declared figures is over its limit.
 #[derive(Clone, Copy)]
@@ -31,8 +32,7 @@ pub enum BatchReason {
     SessionClosed,
     // Which, the patches and their limit, the bytes and their limit.
     DeclaredLimits(DeclaredLimit, u64, u64, u64, u64),
-    // The rule, the place, and the position of the field.
-    Unreadable(ReadingRule, Inside, usize),
+    Unreadable(Stop),
     // The place, how many, and kind, domain and secondary of the first.
     HasFindings(CheckPlace, usize, u64, u64, u64),
     // Patches declared and there, references declared and there.
@@ -45,38 +45,29 @@ pub enum BatchReason {
     OperationFails(usize, usize, OperationRule),
 }
 
-// Why a step refuses, if it does.
-#[derive(Drop)]
-pub enum StepReason {
-    Fine,
-    Because(BatchReason),
+impl From<Stop> for BatchReason {
+    ghost from_gives = { λ stop reason. reason ≡ Unreadable stop };
+
+    fn from(stop: Stop) -> BatchReason {
+        BatchReason::Unreadable(stop)
+    }
 }
 
 // Withheld: there is a reason, and the session's limit of diagnostics is 0.
-#[derive(Drop)]
+#[derive(Clone, Copy)]
 pub enum BatchExplanation {
     None,
     Withheld,
     Given(BatchReason),
 }
 
-// The reason of the first of two steps that refuses.
-pub fn first_of(first: StepReason, second: StepReason) -> StepReason
-    ensures { result ≡ first_to first second }
+// What a session with this limit of diagnostics tells of its steps, which refuse by a reason.
+pub fn under_cap(cap: u64, steps: Result<(), BatchReason>) -> BatchExplanation
+    ensures { result ≡ capped_to cap steps }
 {
-    match first {
-        StepReason::Fine => second,
-        StepReason::Because(reason) => StepReason::Because(reason),
-    }
-}
-
-// What a session with this limit of diagnostics tells.
-pub fn under_cap(cap: u64, found: StepReason) -> BatchExplanation
-    ensures { result ≡ capped_to cap found }
-{
-    match found {
-        StepReason::Fine => BatchExplanation::None,
-        StepReason::Because(reason) => {
+    match steps {
+        Ok(()) => BatchExplanation::None,
+        Err(reason) => {
             if cap == 0 {
                 return BatchExplanation::Withheld;
             }

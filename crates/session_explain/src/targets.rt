@@ -16,14 +16,6 @@ use patch_walk::{SetCursor, SetOpening, SetStep};
 use projection_patch::patch::{ProjectionPatchEdition, ProjectionPatchOperation};
 use projection_patch::read_values::ProjectionPatchReadFault;
 
-// The operation by its patch and its index there, or that there is none.
-#[derive(Drop)]
-pub enum FirstUnknown {
-    AllKnown,
-    Unknown { patch: usize, operation: usize },
-    Unreadable(ProjectionPatchReadFault),
-}
-
 // Whether the operation's target is one of the lent anchors.
 fn target_known(
     nodes: &[u64],
@@ -45,7 +37,7 @@ fn unknown_from(
     nodes: &[u64],
     bindings: &[u64],
     collections: &[u64],
-) -> FirstUnknown
+) -> Result<Option<(usize, usize)>, ProjectionPatchReadFault>
     ensures { (c : Catalogue) (ps : List Patch) → Lent c nodes.now bindings.now collections.now → AtSteps (edition_of edition) set.now from [] ps
         → result ≡ unknown_to (walk_patches (tested (target_known c)) 0 tt ps) }
 {
@@ -66,35 +58,32 @@ fn unknown_from(
                     index = index + 1;
                     cursor = next;
                 } else {
-                    return FirstUnknown::Unknown {
-                        patch,
-                        operation: index,
-                    };
+                    return Ok(Some((patch, index)));
                 }
             }
             SetStep::End => {
-                return FirstUnknown::AllKnown;
+                return Ok(None);
             }
             SetStep::Refused(fault) => {
-                return FirstUnknown::Unreadable(fault);
+                return Err(fault);
             }
         }
     }
 }
 
-// Of a set that is known to be readable.
+// The first operation with an unknown target, by its patch and its index there, of a set that is known to be readable.
 pub fn first_unknown(
     set: &[u8],
     edition: ProjectionPatchEdition,
     nodes: &[u64],
     bindings: &[u64],
     collections: &[u64],
-) -> FirstUnknown
+) -> Result<Option<(usize, usize)>, ProjectionPatchReadFault>
     ensures { (c : Catalogue) (ps : List Patch) → Lent c nodes.now bindings.now collections.now → read_set (edition_of edition) set.now ≡ patches ps
         → result ≡ unknown_to (walk_patches (tested (target_known c)) 0 tt ps) }
 {
     match patch_walk::open_set(set, edition) {
         SetOpening::At(start) => unknown_from(set, edition, start, nodes, bindings, collections),
-        SetOpening::Refused(fault) => FirstUnknown::Unreadable(fault),
+        SetOpening::Refused(fault) => Err(fault),
     }
 }

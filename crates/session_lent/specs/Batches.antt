@@ -1,4 +1,5 @@
 -- What a batch on lent slices answers and leaves. The slices that it reads stay by their type; those that it writes to are told.
+use Rattle.std.specs.Prelude.{Option, Some, None}
 use Rattle.std.specs.Prelude.{ℕ, ◌≡◌, Bool, true, false, ◌&&◌, List, eqb, length}
 use Rattle.spec_patch.specs.Edition.{Edition}
 use Rattle.spec_session.specs.Session.{Session}
@@ -15,8 +16,6 @@ use Rattle.session_steps.specs.declared.answers.ProjectionPatchApplicationDispos
 use Rattle.session_steps.specs.declared.answers.ProjectionPatchApplicationResult.{ProjectionPatchApplicationResult}
 use Rattle.session_lent.specs.Head.{head_numbers, state_at, limits_at}
 use Rattle.session_lent.specs.LentSession.{LentSession, LentRoom, anchors_shaped, half_shaped}
-use Rattle.session_lent.specs.declared.batch.LentBatch.{LentBatch}
-use Rattle.session_lent.specs.declared.batch.LentBatch.TheVariants.{Answered, NoSession}
 
 -- ---- slices that stay
 
@@ -59,9 +58,9 @@ module _ (ed : Edition) (v : BatchEnvelope) (declared : ℕ) (set head nodes pai
       && (half_shaped head (length b) (length a) (length e) && (half_shaped toH (length toB) (length toA) (length toE) && eqb (length toL) length_bytes))
 
   -- memory of that shape is answered; of any other nothing is changed
-  pub record BatchCallOnSlices (r : LentBatch) (h' b' a' e' l' : List ℕ) : Type 0 where
-    pub answered : memory_shaped ≡ true → (result : ProjectionPatchApplicationResult) × ((r ≡ Answered result) × ShapedCall result h' b' a' e' l')
-    pub refused : memory_shaped ≡ false → (r ≡ NoSession) × SameHalf toH toB toA toE toL h' b' a' e' l'
+  pub record BatchCallOnSlices (r : Option ProjectionPatchApplicationResult) (h' b' a' e' l' : List ℕ) : Type 0 where
+    pub answered : memory_shaped ≡ true → (result : ProjectionPatchApplicationResult) × ((r ≡ Some result) × ShapedCall result h' b' a' e' l')
+    pub refused : memory_shaped ≡ false → (r ≡ None) × SameHalf toH toB toA toE toL h' b' a' e' l'
 
 -- the memory of a plan, lent without rows, is given back so
 abbrev pub PlanGivenBack : (head nodes pairs collections b a e : List ℕ) (plan plan' : PlanTables) → Type 0

@@ -1,5 +1,5 @@
 -- Slices that were cleared, with the head of a new session, hold that session; and their anchors fit exactly where the model's do.
-use Rattle.std.specs.Prelude.{ℕ, ◌+◌, ◌*◌, ◌%◌, ◌≤◌, ◌<◌, ◌≡◌, Bool, ◌&&◌, length, if◌then◌else◌}
+use Rattle.std.specs.Prelude.{ℕ, ◌+◌, ◌*◌, ◌%◌, ◌≤◌, ◌<◌, ◌≡◌, Bool, ◌&&◌, length, if◌then◌else◌, Result, Ok, Err}
 use Rattle.std.proofs.Math.Path.{refl, sym, ap}
 use Rattle.std.proofs.Common.{ap₂, subst, ◌∙◌, arith}
 use Rattle.std.proofs.Math.Bool.{true, false}
@@ -26,7 +26,7 @@ use Rattle.session_lent.specs.Head.{head_numbers, new_head}
 use Rattle.session_lent.specs.HeadLaws.{new_told}
 use Rattle.session_lent.specs.LentSession.{LentSession, anchors_shaped}
 use Rattle.session_lent.specs.Steps.{room_shaped, creation_answer, after_creation, CreatedIn, CreationCall}
-use Rattle.session_lent.specs.declared.creation.LentCreation.{LentCreation}
+use Rattle.session_lent.specs.declared.creation.LentCreationRefusal.{LentCreationRefusal}
 
 -- pairs taken apart are twice as many numbers
 pub pairs_apart : (bs : List BindingPair) → length (flat_map pair_numbers bs) ≡ 2 * length bs
@@ -114,7 +114,7 @@ module _ (id : ℕ) (limits : Limits) (nodes pairs collections head b a e l : Li
   room_collections : length l ≡ length_bytes
   room_collections = eqb-true (length l) length_bytes (and_left (eqb (length l) length_bytes) (tables_fit (length b) (length a) (length e)) tables_behind)
 
-  pub creation_became : (r : LentCreation) (head' b' a' e' l' : List ℕ) → CreationCall id limits nodes pairs collections head b a e l r head' b' a' e' l' → (c : Catalogue) → Lent c nodes pairs collections
+  pub creation_became : (r : Result (Unit {0}) LentCreationRefusal) (head' b' a' e' l' : List ℕ) → CreationCall id limits nodes pairs collections head b a e l r head' b' a' e' l' → (c : Catalogue) → Lent c nodes pairs collections
       → CreatedIn (create id limits c) r head' nodes pairs collections b' a' e' l'
   creation_became r head' b' a' e' l' call c lent =
       let t = anchors_shaped (length nodes) (length pairs) (length collections) in

@@ -1,4 +1,5 @@
 -- A lifecycle step of a lent head is the step of the session that the slices hold.
+use Rattle.std.specs.Prelude.{Option}
 use Rattle.std.specs.Prelude.{ℕ, refl, List}
 use Rattle.std.proofs.Math.Path.{◌≡◌, sym, ap, subst}
 use Rattle.std.proofs.Common.{ap₂, ◌∙◌, arith}
@@ -18,7 +19,6 @@ use Rattle.session_lifecycle.specs.declared.lifecycle.ShellTransitionResult.{She
 use Rattle.session_lent.specs.Head.{lifecycle_number, state_at, limits_at, lent_head_of}
 use Rattle.session_lent.specs.HeadLaws.{state_told, limits_told, entered_told}
 use Rattle.session_lent.specs.LentSession.{LentSession}
-use Rattle.session_lent.specs.declared.lifecycle.LentTransition.{LentTransition}
 use Rattle.session_lent.specs.Steps.{stepped_head, TransitionBecame, TransitionAnswered}
 
 module _ (h : List ℕ) (u : Stimulus) (n : ℕ) (r : ShellTransitionResult) (answered : answer_of r ≡ (lifecycle_step (bare (limits_at h) (state_at h)) u n).answer)
@@ -63,7 +63,7 @@ module _ (h : List ℕ) (u : Stimulus) (n : ℕ) (r : ShellTransitionResult) (an
       go Rejected is = stays (λ k. let z : rejected ≡ applied = is ∙ k in absurd (let y : ◌≡◌ {A = ℕ} 0 1 = cc in omega arith))
 
 -- what was answered is the model's step, and the slices hold the session after it
-pub transition_became : {h h' : List ℕ} {u : Stimulus} {n : ℕ} {r : LentTransition} (t : TransitionAnswered h u n r h') (m : Session) (nodes pairs collections b a e l : List ℕ)
+pub transition_became : {h h' : List ℕ} {u : Stimulus} {n : ℕ} {r : Option ShellTransitionResult} (t : TransitionAnswered h u n r h') (m : Session) (nodes pairs collections b a e l : List ℕ)
     → LentSession h nodes pairs collections b a e l m → TransitionBecame t.result h' nodes pairs collections b a e l (lifecycle_step m u n)
 transition_became {h = h} {u = u} {n = n} t m nodes pairs collections b a e l holds =
     subst (λ (x : List ℕ). TransitionBecame t.result x nodes pairs collections b a e l (lifecycle_step m u n)) (sym t.left) (stepped h u n t.result t.answer m nodes pairs collections b a e l holds)

@@ -22,13 +22,6 @@ use session_gates::gates::{BatchGate, OrderedProjectionPatchBatchEnvelope};
 use session_steps::answers::ProjectionPatchApplicationResult;
 use session_steps::{answers, checks};
 
-// The answer, or that the slices cannot hold a session: one has another length, or a count is over its capacity.
-#[derive(Drop)]
-pub enum LentBatch {
-    Answered(ProjectionPatchApplicationResult),
-    NoSession,
-}
-
 // Step 9 of the batch with a number: the tables and the head of the next session are written where every operation applies, and nothing otherwise.
 fn commit<'a>(
     head: &[u64],
@@ -154,7 +147,8 @@ pub fn apply_shaped<'a>(
     answers::concluded(cap, change, cursor, number)
 }
 
-// One batch: steps 1 to 9. The session in the first slices stays; the next one is written to the others where the answer is Applied, and nothing
+// One batch: steps 1 to 9; none where the slices cannot hold a session: one has another length, or a count is over its capacity. The session in
+// the first slices stays; the next one is written to the others where the answer is Applied, and nothing
 // is written otherwise. The plan is made in memory of zeros, which are zeros again afterwards.
 pub fn apply_projection_patch_batch<'a>(
     head: &[u64],
@@ -176,14 +170,14 @@ pub fn apply_projection_patch_batch<'a>(
     plan_bindings: &mut [u8; panel_plan::BINDING_BYTES],
     plan_availability: &mut [u8; LocalProjectionState::AVAILABILITY_BYTES],
     plan_entries: &mut [u8; panel_plan::ENTRY_BYTES],
-) -> LentBatch
+) -> Option<ProjectionPatchApplicationResult>
     ensures called { BatchCallOnSlices (edition_of edition) (batch_envelope_of envelope) declared_target_reference_count set.now head.now nodes.now pairs.now collections.now bindings.now availability.now entries.now
         to_head.old to_bindings.old to_availability.old to_entries.old to_lengths.old
         (plan_in plan_bindings.old plan_availability.old plan_entries.old) result to_head.new to_bindings.new to_availability.new to_entries.new to_lengths.new }
     ensures cleared { PlanGivenBack head.now nodes.now pairs.now collections.now bindings.now availability.now entries.now
         (plan_in plan_bindings.old plan_availability.old plan_entries.old) (plan_in plan_bindings.new plan_availability.new plan_entries.new) }
 {
-    if shape::memory_shaped(
+    if !shape::memory_shaped(
         nodes.len(),
         pairs.len(),
         collections.len(),
@@ -197,28 +191,27 @@ pub fn apply_projection_patch_batch<'a>(
         to_entries.len(),
         to_lengths.len(),
     ) {
-        let result = apply_shaped(
-            head,
-            nodes,
-            pairs,
-            collections,
-            bindings,
-            availability,
-            entries,
-            envelope,
-            declared_target_reference_count,
-            set,
-            edition,
-            to_head,
-            to_bindings,
-            to_availability,
-            to_entries,
-            to_lengths,
-            plan_bindings,
-            plan_availability,
-            plan_entries,
-        );
-        return LentBatch::Answered(result);
+        return None;
     }
-    LentBatch::NoSession
+    Some(apply_shaped(
+        head,
+        nodes,
+        pairs,
+        collections,
+        bindings,
+        availability,
+        entries,
+        envelope,
+        declared_target_reference_count,
+        set,
+        edition,
+        to_head,
+        to_bindings,
+        to_availability,
+        to_entries,
+        to_lengths,
+        plan_bindings,
+        plan_availability,
+        plan_entries,
+    ))
 }

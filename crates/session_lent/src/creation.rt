@@ -7,11 +7,10 @@ use crate::{head, shape};
 use local_projection_state::LocalProjectionState;
 use session_lifecycle::state::ShellLifecycleLimits;
 
-// A session stands in the slices, or a list of anchors is over its capacity, or the slices cannot hold a session: one has another length, or
-// the numbers of the bindings are no pairs.
-#[derive(Drop)]
-pub enum LentCreation {
-    Created,
+// A list of anchors is over its capacity, or the slices cannot hold a session: one has another length, or the numbers of the bindings are no
+// pairs.
+#[derive(Clone, Copy)]
+pub enum LentCreationRefusal {
     AnchorsOverCapacity,
     NoSession,
 }
@@ -26,16 +25,10 @@ fn room_shaped(
 ) -> bool
     ensures { result ≡ room_shaped head pairs bindings availability entries lengths }
 {
-    if head != head::NUMBERS {
-        return false;
-    }
-    if pairs % 2 != 0 {
-        return false;
-    }
-    if lengths != LocalProjectionState::LENGTH_BYTES {
-        return false;
-    }
-    panel_changes::tables_fit(bindings, availability, entries)
+    head == head::NUMBERS
+        && pairs % 2 == 0
+        && lengths == LocalProjectionState::LENGTH_BYTES
+        && panel_changes::tables_fit(bindings, availability, entries)
 }
 
 // Makes the slices hold a new session with these anchors. Unless it is created, every slice stays.
@@ -50,11 +43,11 @@ pub fn create_session(
     availability: &mut [u8],
     entries: &mut [u8],
     lengths: &mut [u8],
-) -> LentCreation
+) -> Result<(), LentCreationRefusal>
     ensures { CreationCall id (limits_of limits) nodes.now pairs.now collections.now head.old bindings.old availability.old entries.old lengths.old
         result head.new bindings.new availability.new entries.new lengths.new }
 {
-    if room_shaped(
+    if !room_shaped(
         head.len(),
         pairs.len(),
         bindings.len(),
@@ -62,15 +55,15 @@ pub fn create_session(
         entries.len(),
         lengths.len(),
     ) {
-        if shape::anchors_shaped(nodes.len(), pairs.len(), collections.len()) {
-            head::store_new(head, id, limits);
-            bytes_records::moves::clear(bindings);
-            bytes_records::moves::clear(availability);
-            bytes_records::moves::clear(entries);
-            bytes_records::moves::clear(lengths);
-            return LentCreation::Created;
-        }
-        return LentCreation::AnchorsOverCapacity;
+        return Err(LentCreationRefusal::NoSession);
     }
-    LentCreation::NoSession
+    if !shape::anchors_shaped(nodes.len(), pairs.len(), collections.len()) {
+        return Err(LentCreationRefusal::AnchorsOverCapacity);
+    }
+    head::store_new(head, id, limits);
+    bytes_records::moves::clear(bindings);
+    bytes_records::moves::clear(availability);
+    bytes_records::moves::clear(entries);
+    bytes_records::moves::clear(lengths);
+    Ok(())
 }

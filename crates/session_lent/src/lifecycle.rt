@@ -9,28 +9,18 @@ use session_lifecycle::lifecycle::{
     ShellTransitionDisposition, ShellTransitionInput, ShellTransitionResult,
 };
 
-// The answer, or that the head has another number of numbers.
-#[derive(Drop)]
-pub enum LentTransition {
-    Answered(ShellTransitionResult),
-    NoSession,
-}
-
-// One lifecycle step. Unless it is applied the head stays.
-pub fn transition(head: &mut [u64], input: ShellTransitionInput) -> LentTransition
+// One lifecycle step; none where the head has another number of numbers. Unless it is applied the head stays.
+pub fn transition(head: &mut [u64], input: ShellTransitionInput) -> Option<ShellTransitionResult>
     ensures { TransitionCall head.old (stimulus_of input.stimulus) input.stimulus_bytes result head.new }
 {
     if head.len() != head::NUMBERS {
-        return LentTransition::NoSession;
+        return None;
     }
     let limits = head::limits_in(head);
     let state = head::state_in(head);
     let result = lifecycle::evaluate_lifecycle_transition(limits, state, input);
-    let disposition = result.disposition;
-    if let ShellTransitionDisposition::Applied = disposition {
-        let next = result.state;
-        let reached = next.lifecycle;
-        head[1] = head::lifecycle_number(reached);
+    if let ShellTransitionDisposition::Applied = result.disposition {
+        head[1] = head::lifecycle_number(result.state.lifecycle);
     }
-    LentTransition::Answered(result)
+    Some(result)
 }

@@ -11,29 +11,19 @@ use local_projection_state::LocalProjectionState;
 pub fn anchors_shaped(nodes: usize, pairs: usize, collections: usize) -> bool
     ensures { result ≡ anchors_shaped nodes pairs collections }
 {
-    if ActiveProjectionTargetCatalog::ANCHORS < nodes {
-        return false;
-    }
-    if 2 * ActiveProjectionTargetCatalog::ANCHORS < pairs {
-        return false;
-    }
-    if pairs % 2 != 0 {
-        return false;
-    }
-    collections <= ActiveProjectionTargetCatalog::ANCHORS
+    nodes <= ActiveProjectionTargetCatalog::ANCHORS
+        && pairs <= 2 * ActiveProjectionTargetCatalog::ANCHORS
+        && pairs % 2 == 0
+        && collections <= ActiveProjectionTargetCatalog::ANCHORS
 }
 
 // Whether a head and tables of these lengths are a half of a session's memory: no count is over its capacity.
 pub fn half_shaped(head: &[u64], bindings: usize, availability: usize, entries: usize) -> bool
     ensures { result ≡ half_shaped head.now bindings availability entries }
 {
-    if head.len() != head::NUMBERS {
-        return false;
-    }
-    if panel_changes::tables_fit(bindings, availability, entries) {
-        return panel_changes::counts_fit(head::counts_in(head));
-    }
-    false
+    head.len() == head::NUMBERS
+        && panel_changes::tables_fit(bindings, availability, entries)
+        && panel_changes::counts_fit(head::counts_in(head))
 }
 
 // Whether anchors of so many numbers, the half that is read and the half that is written are a session's memory.
@@ -53,12 +43,8 @@ pub fn memory_shaped(
 ) -> bool
     ensures { result ≡ (anchors_shaped nodes pairs collections && (half_shaped head.now bindings availability entries && (half_shaped to_head.now to_bindings to_availability to_entries && eqb to_lengths length_bytes))) }
 {
-    if anchors_shaped(nodes, pairs, collections) {
-        if half_shaped(head, bindings, availability, entries) {
-            if half_shaped(to_head, to_bindings, to_availability, to_entries) {
-                return to_lengths == LocalProjectionState::LENGTH_BYTES;
-            }
-        }
-    }
-    false
+    anchors_shaped(nodes, pairs, collections)
+        && half_shaped(head, bindings, availability, entries)
+        && half_shaped(to_head, to_bindings, to_availability, to_entries)
+        && to_lengths == LocalProjectionState::LENGTH_BYTES
 }

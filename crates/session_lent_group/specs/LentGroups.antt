@@ -1,6 +1,6 @@
 -- What a group on lent slices answers and leaves: 02, 'Job 12'. The session's own half and the anchors stay by their type; the two halves to work in
 -- are told.
-use Rattle.std.specs.Prelude.{ℕ, ◌<◌, ◌≡◌, Bool, true, false, ◌&&◌, List, [], eqb, length, if◌then◌else◌}
+use Rattle.std.specs.Prelude.{ℕ, ◌<◌, ◌≡◌, Bool, true, false, ◌&&◌, List, Option, Some, None, [], eqb, length, if◌then◌else◌, Result, Ok, Err}
 use Rattle.spec_session.specs.Session.{Session}
 use Rattle.spec_group.specs.Group as model
 use Rattle.spec_group.specs.Group.{is_group, group_number, group}
@@ -16,10 +16,7 @@ use Rattle.session_lent.specs.LentSession.{anchors_shaped, half_shaped}
 use Rattle.session_lent.specs.Halves.{Anchors, Half, HeldIn, RoomIn}
 use Rattle.session_lent_group.specs.declared.places.LentHalf.{LentHalf}
 use Rattle.session_lent_group.specs.declared.places.LentHalf.TheVariants.{Own}
-use Rattle.session_lent_group.specs.declared.group.LentGroup.{LentGroup}
-use Rattle.session_lent_group.specs.declared.group.LentGroup.TheVariants.{Answered, NoSession}
-use Rattle.session_lent_group.specs.declared.places.LentRun.{LentRun}
-use Rattle.session_lent_group.specs.declared.places.LentRun.TheVariants as run
+use Rattle.session_lent_group.specs.declared.places.RefusedBatch.{RefusedBatch}
 use Rattle.session_lent_group.specs.Sendings.{standing}
 
 -- ---- slices that a group can be sent to
@@ -46,10 +43,10 @@ pub record LentGroupStep (k : Anchors) (answer : GroupAnswer) (half : LentHalf) 
 -- ---- what is answered of a run
 
 -- all were taken, with the cursor that the named half's head tells; or the answer of the refused batch with the cursor of the own half's
-abbrev pub ConcludedAs : LentRun → (count : ℕ) (own first second : List ℕ) → LentGroup → Type 0
-ConcludedAs (run.Ended half) count own first second r = (c : ProjectionReplayCursor) × ((cursor_of c ≡ (state_at (standing half own first second)).cursor) × (r ≡ Answered (Taken count c) half))
-ConcludedAs (run.Broke i x) count own first second r =
-    (c : ProjectionReplayCursor) × ((cursor_of c ≡ (state_at own).cursor) × (r ≡ Answered (RefusedAt i (record { disposition = x.disposition; diagnostics = x.diagnostics; replay_cursor = c })) Own))
+abbrev pub ConcludedAs : Result LentHalf RefusedBatch → (count : ℕ) (own first second : List ℕ) → (GroupAnswer × LentHalf) → Type 0
+ConcludedAs (Ok half) count own first second r = (c : ProjectionReplayCursor) × ((cursor_of c ≡ (state_at (standing half own first second)).cursor) × (r ≡ (Taken count c, half)))
+ConcludedAs (Err x) count own first second r =
+    (c : ProjectionReplayCursor) × ((cursor_of c ≡ (state_at own).cursor) × (r ≡ (RefusedAt x.place (record { disposition = x.answer.disposition; diagnostics = x.answer.diagnostics; replay_cursor = c }), Own)))
 
 -- ---- for any slices whatever
 
@@ -74,6 +71,6 @@ module _ (k : Anchors) (own : List ℕ → Half) (places : List GroupBatch) (cou
   group_shaped = own_shaped k (own []) first && work_shaped second
 
   -- memory of that shape is answered; of any other nothing is changed
-  pub record LentGroupCall (r : LentGroup) (first' second' : Half) : Type 0 where
-    pub answered : group_shaped ≡ true → (answer : GroupAnswer) × ((half : LentHalf) × ((r ≡ Answered answer half) × ShapedGroup answer half first' second'))
-    pub refused : group_shaped ≡ false → (r ≡ NoSession) × ((first' ≡ first) × (second' ≡ second))
+  pub record LentGroupCall (r : Option (GroupAnswer × LentHalf)) (first' second' : Half) : Type 0 where
+    pub answered : group_shaped ≡ true → (answer : GroupAnswer) × ((half : LentHalf) × ((r ≡ Some (answer, half)) × ShapedGroup answer half first' second'))
+    pub refused : group_shaped ≡ false → (r ≡ None) × ((first' ≡ first) × (second' ≡ second))

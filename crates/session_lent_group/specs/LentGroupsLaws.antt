@@ -1,5 +1,5 @@
 -- A group that was sent is answered as the model's, and what is no group is refused first.
-use Rattle.std.specs.Prelude.{ℕ, ◌≤◌, ◌≡◌, Bool, ◌&&◌, eqb, length, if◌then◌else◌}
+use Rattle.std.specs.Prelude.{ℕ, ◌≤◌, ◌≡◌, Bool, ◌&&◌, eqb, length, if◌then◌else◌, Option, Some, None, Result, Ok, Err}
 use Rattle.std.proofs.Math.Path.{refl, ap}
 use Rattle.std.proofs.Common.{sym, ◌∙◌, arith}
 use Rattle.std.proofs.Math.Bool.{true, false}
@@ -24,10 +24,7 @@ use Rattle.session_lent.specs.BatchesLaws.{half_head}
 use Rattle.session_lent.specs.Halves.{Anchors, Half, half_with, HeldIn}
 use Rattle.session_lent_group.specs.declared.places.LentHalf.{LentHalf}
 use Rattle.session_lent_group.specs.declared.places.LentHalf.TheVariants.{Own, First, Second}
-use Rattle.session_lent_group.specs.declared.places.LentRun.{LentRun}
-use Rattle.session_lent_group.specs.declared.places.LentRun.TheVariants as run
-use Rattle.session_lent_group.specs.declared.group.LentGroup.{LentGroup}
-use Rattle.session_lent_group.specs.declared.group.LentGroup.TheVariants.{Answered}
+use Rattle.session_lent_group.specs.declared.places.RefusedBatch.{RefusedBatch}
 use Rattle.session_lent_group.specs.Sendings.{LeftFits, whole_group, standing}
 use Rattle.session_lent_group.specs.SendingsLaws.{RanFrom}
 use Rattle.session_lent_group.specs.LentGroups.{work_shaped, own_shaped, ConcludedAs, ShapedGroup}
@@ -66,13 +63,13 @@ module _ (k : Anchors) (h b a e : List ℕ) (places : List GroupBatch) (count : 
   Shaped = ShapedGroup k (half_with h b a e) places count sets first second
 
   -- what the call answers of slices of the right shape
-  abbrev pub ShapedAnswer : LentGroup → (first' second' : Half) → Type 0
-  ShapedAnswer r first' second' = (answer : GroupAnswer) × ((half : LentHalf) × ((r ≡ Answered answer half) × Shaped answer half first' second'))
+  abbrev pub ShapedAnswer : Option (GroupAnswer × LentHalf) → (first' second' : Half) → Type 0
+  ShapedAnswer r first' second' = (answer : GroupAnswer) × ((half : LentHalf) × ((r ≡ Some (answer, half)) × Shaped answer half first' second'))
 
   numbered : (is : Bool) → names_group count places (length sets) ≡ is → (bs : List model.GroupBatch) → Names count places bs → (if is then 0 else group_number) ≡ (if is_group bs sets then 0 else group_number)
   numbered is e bs names = ap (λ (t : Bool). if t then 0 else group_number) (sym (names_group_lem names sets ∙ e))
 
-  pub none_sent : names_group count places (length sets) ≡ false → ShapedAnswer (Answered NotAGroup Own) first second
+  pub none_sent : names_group count places (length sets) ≡ false → ShapedAnswer (Some (NotAGroup, Own)) first second
   unfolding group group_answer_of
   none_sent is = (
     NotAGroup,
@@ -94,14 +91,14 @@ module _ (k : Anchors) (h b a e : List ℕ) (places : List GroupBatch) (count : 
     unfolding group
     group_is m bs names = rw (names_group_lem names sets ∙ is, names.many, names_all names (group_named count places (length sets) is).0) refl
 
-    ended_answer : (half : LentHalf) → RanFrom k h b a e first second sets (whole_group places count) first' second' (run.Ended half) → (r : LentGroup) → ConcludedAs (run.Ended half) count h first'.head second'.head r → ShapedAnswer r first' second'
+    ended_answer : (half : LentHalf) → RanFrom k h b a e first second sets (whole_group places count) first' second' (Ok half) → (r : GroupAnswer × LentHalf) → ConcludedAs (Ok half) count h first'.head second'.head r → ShapedAnswer (Some r) first' second'
     unfolding conclude_group group_answer_of
     ended_answer half ran r con = (
       Taken count con.0,
       (
         half,
         (
-          con.1.1,
+          ap Some con.1.1,
           record {
             became = λ m l held room room' bs names.
                 let x = ran.0 m l held room room' in
@@ -120,20 +117,20 @@ module _ (k : Anchors) (h b a e : List ℕ) (places : List GroupBatch) (count : 
       ),
     )
 
-    broke_answer : (i : ℕ) (x : ProjectionPatchApplicationResult) → RanFrom k h b a e first second sets (whole_group places count) first' second' (run.Broke i x) → (r : LentGroup) → ConcludedAs (run.Broke i x) count h first'.head second'.head r → ShapedAnswer r first' second'
+    broke_answer : (x : RefusedBatch) → RanFrom k h b a e first second sets (whole_group places count) first' second' (Err x) → (r : GroupAnswer × LentHalf) → ConcludedAs (Err x) count h first'.head second'.head r → ShapedAnswer (Some r) first' second'
     unfolding conclude_group group_answer_of with_cursor
-    broke_answer i x ran r con = (
-      RefusedAt i (record { disposition = x.disposition; diagnostics = x.diagnostics; replay_cursor = con.0 }),
+    broke_answer x ran r con = (
+      RefusedAt x.place (record { disposition = x.answer.disposition; diagnostics = x.answer.diagnostics; replay_cursor = con.0 }),
       (
         Own,
         (
-          con.1.1,
+          ap Some con.1.1,
           record {
             became = λ m l held room room' bs names.
                 let y = ran.0 m l held room room' in
                 rw (group_is m bs names, y.0) (
                 record {
-                  same_answer = ap (λ (n : Cursor). model.refused_at i (with_cursor n (batch_answer_of x))) (con.1.0 ∙ held_cursor k (half_with h b a e l) m held);
+                  same_answer = ap (λ (n : Cursor). model.refused_at x.place (with_cursor n (batch_answer_of x.answer))) (con.1.0 ∙ held_cursor k (half_with h b a e l) m held);
                   next = held;
                   first_room = y.1.0;
                   second_room = y.1.1;
@@ -146,6 +143,6 @@ module _ (k : Anchors) (h b a e : List ℕ) (places : List GroupBatch) (count : 
       ),
     )
 
-    pub group_answered : (u : LentRun) → RanFrom k h b a e first second sets (whole_group places count) first' second' u → (r : LentGroup) → ConcludedAs u count h first'.head second'.head r → ShapedAnswer r first' second'
-    group_answered (run.Ended half) ran r told = ended_answer half ran r told
-    group_answered (run.Broke i x) ran r told = broke_answer i x ran r told
+    pub group_answered : (u : Result LentHalf RefusedBatch) → RanFrom k h b a e first second sets (whole_group places count) first' second' u → (r : GroupAnswer × LentHalf) → ConcludedAs u count h first'.head second'.head r → ShapedAnswer (Some r) first' second'
+    group_answered (Ok half) ran r told = ended_answer half ran r told
+    group_answered (Err x) ran r told = broke_answer x ran r told

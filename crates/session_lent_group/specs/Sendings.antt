@@ -1,19 +1,17 @@
 -- What is left of a group on its way between halves of lent memory, and what came of the batches that were sent.
-use Rattle.std.specs.Prelude.{ℕ, ◌+◌, ◌≤◌, ◌<◌, ◌≡◌, List, length, drop}
+use Rattle.std.specs.Prelude.{ℕ, ◌+◌, ◌≤◌, ◌<◌, ◌≡◌, List, length, drop, Option, Some, None, Result, Ok, Err}
 use Rattle.spec_session.specs.Session.{Session}
 use Rattle.spec_group.specs.Group as model
 use Rattle.spec_group.specs.Group.{group_batches, total_bytes, ended, broke, run_group}
 use Rattle.session_steps.specs.Answers.{batch_answer_of}
+use Rattle.session_steps.specs.declared.answers.ProjectionPatchApplicationResult.{ProjectionPatchApplicationResult}
 use Rattle.session_group.specs.declared.GroupBatch.{GroupBatch}
 use Rattle.session_group.specs.Groups.{named_batch}
 use Rattle.session_lent.specs.Halves.{Anchors, Half, HeldIn, RoomIn}
 use Rattle.session_lent_group.specs.declared.places.LentHalf.{LentHalf}
 use Rattle.session_lent_group.specs.declared.places.LentHalf.TheVariants.{Own, First, Second}
 use Rattle.session_lent_group.specs.declared.places.GroupLeft.{GroupLeft}
-use Rattle.session_lent_group.specs.declared.places.LentSending.{LentSending}
-use Rattle.session_lent_group.specs.declared.places.LentSending.TheVariants as sending
-use Rattle.session_lent_group.specs.declared.places.LentRun.{LentRun}
-use Rattle.session_lent_group.specs.declared.places.LentRun.TheVariants as run
+use Rattle.session_lent_group.specs.declared.places.RefusedBatch.{RefusedBatch}
 
 -- ---- what is left
 
@@ -39,19 +37,23 @@ whole_group places count = record { batches = places; count = count; place = 0; 
 abbrev pub left_from : GroupLeft → ℕ → ℕ → GroupLeft
 left_from g place at = record { batches = g.batches; count = g.count; place = place; at = at }
 
+-- the batch of this place was refused, with this answer
+abbrev pub refused_at : ℕ → ProjectionPatchApplicationResult → RefusedBatch
+refused_at place answer = record { place = place; answer = answer }
+
 -- ---- batches from one half to another
 
 -- the session stays where none was applied; otherwise the other half has the next one, and what is left ends as the whole does
-abbrev pub SentOn : LentSending → Anchors → (to : Half) → GroupLeft → List ℕ → Session → model.GroupRun → Type 0
-SentOn sending.Ended k to g sets m whole = whole ≡ ended m
-SentOn (sending.Broke i x) k to g sets m whole = whole ≡ broke i (batch_answer_of x)
-SentOn (sending.Moved place at) k to g sets m whole = (next : Session) × (HeldIn k to next × (run_left (left_from g place at) next sets ≡ whole))
+abbrev pub SentOn : Result (Option (ℕ × ℕ)) RefusedBatch → Anchors → (to : Half) → GroupLeft → List ℕ → Session → model.GroupRun → Type 0
+SentOn (Ok None) k to g sets m whole = whole ≡ ended m
+SentOn (Err x) k to g sets m whole = whole ≡ broke x.place (batch_answer_of x.answer)
+SentOn (Ok (Some (place, at))) k to g sets m whole = (next : Session) × (HeldIn k to next × (run_left (left_from g place at) next sets ≡ whole))
 
 -- for any slices whatever: the other half stays where none was applied
-abbrev pub SentFits : LentSending → GroupLeft → List ℕ → (before after : Half) → Type 0
-SentFits sending.Ended g sets before after = after ≡ before
-SentFits (sending.Broke i x) g sets before after = (i < g.count) × (after ≡ before)
-SentFits (sending.Moved place at) g sets before after = (g.place < place) × LeftFits (left_from g place at) sets
+abbrev pub SentFits : Result (Option (ℕ × ℕ)) RefusedBatch → GroupLeft → List ℕ → (before after : Half) → Type 0
+SentFits (Ok None) g sets before after = after ≡ before
+SentFits (Err x) g sets before after = (x.place < g.count) × (after ≡ before)
+SentFits (Ok (Some (place, at))) g sets before after = (g.place < place) × LeftFits (left_from g place at) sets
 
 -- ---- all batches that are left
 
@@ -62,17 +64,20 @@ standing First own first second = first
 standing Second own first second = second
 
 -- the named half has the session at the end; whatever came of the batches, both halves to work in are room
-abbrev pub RanOn : LentRun → Anchors → (own first second : Half) → model.GroupRun → Type 0
-RanOn (run.Ended half) k own first second whole = (next : Session) × ((whole ≡ ended next) × (HeldIn k (standing half own first second) next × (RoomIn first × RoomIn second)))
-RanOn (run.Broke i x) k own first second whole = (whole ≡ broke i (batch_answer_of x)) × (RoomIn first × RoomIn second)
+abbrev pub RanOn : Result LentHalf RefusedBatch → Anchors → (own first second : Half) → model.GroupRun → Type 0
+RanOn (Ok half) k own first second whole = (next : Session) × ((whole ≡ ended next) × (HeldIn k (standing half own first second) next × (RoomIn first × RoomIn second)))
+RanOn (Err x) k own first second whole = (whole ≡ broke x.place (batch_answer_of x.answer)) × (RoomIn first × RoomIn second)
 
-abbrev pub RanFits : LentRun → (count : ℕ) → Type 0
-RanFits (run.Ended half) count = Unit {0}
-RanFits (run.Broke i x) count = i < count
+abbrev pub RanFits : Result LentHalf RefusedBatch → (count : ℕ) → Type 0
+RanFits (Ok half) count = Unit {0}
+RanFits (Err x) count = x.place < count
 
 -- a run with the two halves exchanged
-abbrev pub turned_to : LentRun → LentRun
-turned_to (run.Ended Own) = run.Ended Own
-turned_to (run.Ended First) = run.Ended Second
-turned_to (run.Ended Second) = run.Ended First
-turned_to (run.Broke i x) = run.Broke i x
+abbrev pub turned_half : LentHalf → LentHalf
+turned_half Own = Own
+turned_half First = Second
+turned_half Second = First
+
+abbrev pub turned_to : Result LentHalf RefusedBatch → Result LentHalf RefusedBatch
+turned_to (Ok half) = Ok (turned_half half)
+turned_to (Err x) = Err x

@@ -1,5 +1,5 @@
 -- Batches on their way between halves: a batch that is sent leaves a shorter rest, which ends as the whole does.
-use Rattle.std.specs.Prelude.{ℕ, ◌+◌, ◌-◌, ◌≤◌, ◌<◌, ◌≡◌, refl, length, get_or, take, drop, if◌then◌else◌}
+use Rattle.std.specs.Prelude.{ℕ, ◌+◌, ◌-◌, ◌≤◌, ◌<◌, ◌≡◌, refl, length, get_or, take, drop, if◌then◌else◌, Option, Some, None, Result, Ok, Err}
 use Rattle.std.proofs.Math.Path.{sym, ap}
 use Rattle.std.proofs.Common.{subst, ◌∙◌, arith, drop-drop}
 use mathlib.Core.List.{List, ◌∷◌}
@@ -24,11 +24,8 @@ use Rattle.session_lent.specs.Halves.{Anchors, Half, half_with, HeldIn, RoomIn}
 use Rattle.session_lent.specs.HalvesLaws.{held_room, same_half}
 use Rattle.session_lent_group.specs.declared.places.LentHalf.TheVariants.{Own, First, Second}
 use Rattle.session_lent_group.specs.declared.places.GroupLeft.{GroupLeft}
-use Rattle.session_lent_group.specs.declared.places.LentSending.{LentSending}
-use Rattle.session_lent_group.specs.declared.places.LentSending.TheVariants as sending
-use Rattle.session_lent_group.specs.declared.places.LentRun.{LentRun}
-use Rattle.session_lent_group.specs.declared.places.LentRun.TheVariants as run
-use Rattle.session_lent_group.specs.Sendings.{left_batches, run_left, LeftFits, left_from, SentOn, SentFits, RanOn, RanFits, turned_to}
+use Rattle.session_lent_group.specs.declared.places.RefusedBatch.{RefusedBatch}
+use Rattle.session_lent_group.specs.Sendings.{left_batches, run_left, LeftFits, left_from, refused_at, SentOn, SentFits, RanOn, RanFits, turned_to}
 
 -- the batch that is next
 abbrev pub next_batch : GroupLeft → GroupBatch
@@ -107,7 +104,7 @@ pub record UnchangedUpTo (k : Anchors) (h b a e : List ℕ) (sets : List ℕ) (g
   pub same : (m : Session) (l : List ℕ) → HeldIn k (half_with h b a e l) m → RoomIn before → run_left (left_from g place at) m sets ≡ run_left g m sets
 
 -- what the contract says of an answer
-abbrev pub SentAs : Anchors → (h b a e : List ℕ) → List ℕ → GroupLeft → (before after : Half) → LentSending → Type 0
+abbrev pub SentAs : Anchors → (h b a e : List ℕ) → List ℕ → GroupLeft → (before after : Half) → Result (Option (ℕ × ℕ)) RefusedBatch → Type 0
 SentAs k h b a e sets g before after r =
     ((m : Session) (l : List ℕ) → HeldIn k (half_with h b a e l) m → RoomIn before → SentOn r k after g sets m (run_left g m sets)) × SentFits r g sets before after
 
@@ -116,7 +113,7 @@ module _ (k : Anchors) (h b a e : List ℕ) (sets : List ℕ) (g : GroupLeft) wh
   unchanged_start to fits = record { later = omega arith; fits = fits; kept = refl; same = λ m l held room. refl }
 
   module _ {place at : ℕ} {before now : Half} (on : UnchangedUpTo k h b a e sets g place at before now) where
-    pub sent_ended : g.count ≤ place → SentAs k h b a e sets g before now sending.Ended
+    pub sent_ended : g.count ≤ place → SentAs k h b a e sets g before now (Ok None)
     sent_ended done = (λ m l held room. sym (on.same m l held room) ∙ rest_none (left_from g place at) sets on.fits done m, on.kept)
 
     module _ (more : place < g.count) (r : ProjectionPatchApplicationResult) (after : Half)
@@ -129,7 +126,7 @@ module _ (k : Anchors) (h b a e : List ℕ) (sets : List ℕ) (g : GroupLeft) wh
       stays : (r.disposition ≡ Applied → ⊥) → after ≡ before
       stays not = same_half (call.kept not) ∙ on.kept
 
-      pub sent_moved : r.disposition ≡ Applied → SentAs k h b a e sets g before after (sending.Moved (place + 1) (at + (next_batch (left_from g place at)).bytes))
+      pub sent_moved : r.disposition ≡ Applied → SentAs k h b a e sets g before after (Ok (Some (place + 1, at + (next_batch (left_from g place at)).bytes)))
       sent_moved is = (
         λ m l held room.
             let x = rest_applied (left_from g place at) sets on.fits more m k r after (step_in m l held room) is in
@@ -137,7 +134,7 @@ module _ (k : Anchors) (h b a e : List ℕ) (sets : List ℕ) (g : GroupLeft) wh
         (omega (arith, on.later), rest_next (left_from g place at) sets on.fits more),
       )
 
-      pub sent_broke : r.disposition ≡ Rejected → SentAs k h b a e sets g before after (sending.Broke place r)
+      pub sent_broke : r.disposition ≡ Rejected → SentAs k h b a e sets g before after (Err (refused_at place r))
       sent_broke is = (
         λ m l held room. sym (on.same m l held room) ∙ rest_refused (left_from g place at) sets on.fits more m k r after (step_in m l held room) is,
         (more, stays (not_applied r.disposition Rejected is refl)),
@@ -154,34 +151,34 @@ module _ (k : Anchors) (h b a e : List ℕ) (sets : List ℕ) (g : GroupLeft) wh
 -- ---- runs
 
 -- a run told with the halves exchanged
-pub exchanged_run : (r : LentRun) (k : Anchors) (own first second : Half) (whole : model.GroupRun) → RanOn r k own first second whole → RanOn (turned_to r) k own second first whole
-exchanged_run (run.Ended Own) k own first second whole h = (h.0, (h.1.0, (h.1.1.0, (h.1.1.1.1, h.1.1.1.0))))
-exchanged_run (run.Ended First) k own first second whole h = (h.0, (h.1.0, (h.1.1.0, (h.1.1.1.1, h.1.1.1.0))))
-exchanged_run (run.Ended Second) k own first second whole h = (h.0, (h.1.0, (h.1.1.0, (h.1.1.1.1, h.1.1.1.0))))
-exchanged_run (run.Broke i x) k own first second whole h = (h.0, (h.1.1, h.1.0))
+pub exchanged_run : (r : Result LentHalf RefusedBatch) (k : Anchors) (own first second : Half) (whole : model.GroupRun) → RanOn r k own first second whole → RanOn (turned_to r) k own second first whole
+exchanged_run (Ok Own) k own first second whole h = (h.0, (h.1.0, (h.1.1.0, (h.1.1.1.1, h.1.1.1.0))))
+exchanged_run (Ok First) k own first second whole h = (h.0, (h.1.0, (h.1.1.0, (h.1.1.1.1, h.1.1.1.0))))
+exchanged_run (Ok Second) k own first second whole h = (h.0, (h.1.0, (h.1.1.0, (h.1.1.1.1, h.1.1.1.0))))
+exchanged_run (Err x) k own first second whole h = (h.0, (h.1.1, h.1.0))
 
-pub exchanged_fits : (r : LentRun) (count : ℕ) → RanFits r count → RanFits (turned_to r) count
-exchanged_fits (run.Ended Own) count h = h
-exchanged_fits (run.Ended First) count h = h
-exchanged_fits (run.Ended Second) count h = h
-exchanged_fits (run.Broke i x) count h = h
+pub exchanged_fits : (r : Result LentHalf RefusedBatch) (count : ℕ) → RanFits r count → RanFits (turned_to r) count
+exchanged_fits (Ok Own) count h = h
+exchanged_fits (Ok First) count h = h
+exchanged_fits (Ok Second) count h = h
+exchanged_fits (Err x) count h = h
 
 -- what the contract says of batches between two halves, the first of which has the session
-abbrev pub RanBetween : Anchors → (from to : Half) → List ℕ → GroupLeft → (from' to' : Half) → LentRun → Type 0
+abbrev pub RanBetween : Anchors → (from to : Half) → List ℕ → GroupLeft → (from' to' : Half) → Result LentHalf RefusedBatch → Type 0
 RanBetween k from to sets g from' to' r = ((m : Session) → HeldIn k from m → RoomIn to → (own : Half) → RanOn r k own from' to' (run_left g m sets)) × RanFits r g.count
 
 module _ (k : Anchors) (from to to' : Half) (sets : List ℕ) (g : GroupLeft) where
-  abbrev SentTo : LentSending → Type 0
+  abbrev SentTo : Result (Option (ℕ × ℕ)) RefusedBatch → Type 0
   SentTo r = SentAs k from.head from.bindings from.availability from.entries sets g to to' r
 
-  pub between_ended : SentTo sending.Ended → RanBetween k from to sets g from to' (run.Ended First)
+  pub between_ended : SentTo (Ok None) → RanBetween k from to sets g from to' (Ok First)
   between_ended sent = (λ m held room own. (m, (sent.0 m from.lengths held room, (held, (held_room k from m held, subst RoomIn (sym sent.1) room)))), tt)
 
-  pub between_broke : (i : ℕ) (x : ProjectionPatchApplicationResult) → SentTo (sending.Broke i x) → RanBetween k from to sets g from to' (run.Broke i x)
-  between_broke i x sent = (λ m held room own. (sent.0 m from.lengths held room, (held_room k from m held, subst RoomIn (sym sent.1.1) room)), sent.1.0)
+  pub between_broke : (x : RefusedBatch) → SentTo (Err x) → RanBetween k from to sets g from to' (Err x)
+  between_broke x sent = (λ m held room own. (sent.0 m from.lengths held room, (held_room k from m held, subst RoomIn (sym sent.1.1) room)), sent.1.0)
 
   -- the rest goes from the other half back
-  pub between_moved : (place at : ℕ) → SentTo (sending.Moved place at) → (from'' to'' : Half) (r : LentRun) → RanBetween k to' from sets (left_from g place at) to'' from'' r → RanBetween k from to sets g from'' to'' (turned_to r)
+  pub between_moved : (place at : ℕ) → SentTo (Ok (Some (place, at))) → (from'' to'' : Half) (r : Result LentHalf RefusedBatch) → RanBetween k to' from sets (left_from g place at) to'' from'' r → RanBetween k from to sets g from'' to'' (turned_to r)
   between_moved place at sent from'' to'' r rest = (
     λ m held room own.
         let x = sent.0 m from.lengths held room in
@@ -190,18 +187,18 @@ module _ (k : Anchors) (from to to' : Half) (sets : List ℕ) (g : GroupLeft) wh
   )
 
 -- what the contract says of batches from the own half
-abbrev pub RanFrom : Anchors → (h b a e : List ℕ) (first second : Half) → List ℕ → GroupLeft → (first' second' : Half) → LentRun → Type 0
+abbrev pub RanFrom : Anchors → (h b a e : List ℕ) (first second : Half) → List ℕ → GroupLeft → (first' second' : Half) → Result LentHalf RefusedBatch → Type 0
 RanFrom k h b a e first second sets g first' second' r =
     ((m : Session) (l : List ℕ) → HeldIn k (half_with h b a e l) m → RoomIn first → RoomIn second → RanOn r k (half_with h b a e l) first' second' (run_left g m sets)) × RanFits r g.count
 
 module _ (k : Anchors) (h b a e : List ℕ) (first second first' : Half) (sets : List ℕ) (g : GroupLeft) where
-  pub own_ended : SentAs k h b a e sets g first first' sending.Ended → RanFrom k h b a e first second sets g first' second (run.Ended Own)
+  pub own_ended : SentAs k h b a e sets g first first' (Ok None) → RanFrom k h b a e first second sets g first' second (Ok Own)
   own_ended sent = (λ m l held room room'. (m, (sent.0 m l held room, (held, (subst RoomIn (sym sent.1) room, room')))), tt)
 
-  pub own_broke : (i : ℕ) (x : ProjectionPatchApplicationResult) → SentAs k h b a e sets g first first' (sending.Broke i x) → RanFrom k h b a e first second sets g first' second (run.Broke i x)
-  own_broke i x sent = (λ m l held room room'. (sent.0 m l held room, (subst RoomIn (sym sent.1.1) room, room')), sent.1.0)
+  pub own_broke : (x : RefusedBatch) → SentAs k h b a e sets g first first' (Err x) → RanFrom k h b a e first second sets g first' second (Err x)
+  own_broke x sent = (λ m l held room room'. (sent.0 m l held room, (subst RoomIn (sym sent.1.1) room, room')), sent.1.0)
 
-  pub own_moved : (place at : ℕ) → SentAs k h b a e sets g first first' (sending.Moved place at) → (first'' second'' : Half) (r : LentRun) → RanBetween k first' second sets (left_from g place at) first'' second'' r → RanFrom k h b a e first second sets g first'' second'' r
+  pub own_moved : (place at : ℕ) → SentAs k h b a e sets g first first' (Ok (Some (place, at))) → (first'' second'' : Half) (r : Result LentHalf RefusedBatch) → RanBetween k first' second sets (left_from g place at) first'' second'' r → RanFrom k h b a e first second sets g first'' second'' r
   own_moved place at sent first'' second'' r rest = (
     λ m l held room room'.
         let x = sent.0 m l held room in

@@ -9,21 +9,13 @@ ghost use Rattle.session_lent.specs.Halves.{anchors_with, half_with, HeldIn, Roo
 ghost use Rattle.session_lent_group.specs.Sendings.{LeftFits, run_left, standing, RanOn, RanFits};
 ghost use Rattle.session_lent_group.specs.LentGroups.{own_shaped, ConcludedAs, LentGroupCall};
 
-use crate::places::{GroupLeft, LentHalf, LentRun, LentSending};
+use crate::places::{GroupLeft, LentHalf, RefusedBatch};
 use crate::{between, places, sending};
 use local_projection_state::LocalProjectionState;
 use session_group::{GroupAnswer, GroupBatch};
 use session_lent::{head, shape};
 use session_lifecycle::state::ProjectionReplayCursor;
 use session_steps::answers::ProjectionPatchApplicationResult;
-
-// The group's answer and the half in which the session stands now; or that the slices cannot hold a session: one has another length, or a count
-// is over its capacity.
-#[derive(Drop)]
-pub enum LentGroup {
-    Answered(GroupAnswer, LentHalf),
-    NoSession,
-}
 
 // Whether a head and tables of these lengths can be worked in.
 fn work_shaped(
@@ -35,18 +27,15 @@ fn work_shaped(
 ) -> bool
     ensures { result ≡ (half_shaped head.now bindings availability entries && eqb lengths length_bytes) }
 {
-    if shape::half_shaped(head, bindings, availability, entries) {
-        return lengths == LocalProjectionState::LENGTH_BYTES;
-    }
-    false
+    shape::half_shaped(head, bindings, availability, entries)
+        && lengths == LocalProjectionState::LENGTH_BYTES
 }
 
 fn head_cursor(head: &[u64]) -> ProjectionReplayCursor
     requires { length head.now ≡ head_numbers }
     ensures { cursor_of result ≡ (state_at head.now).cursor }
 {
-    let state = head::state_in(head);
-    state.replay_cursor
+    head::state_in(head).replay_cursor
 }
 
 // The cursor that the head in a place tells.
@@ -62,25 +51,28 @@ fn cursor_in(half: LentHalf, own: &[u64], first: &[u64], second: &[u64]) -> Proj
 }
 
 // The answer to a run. The cursor of a refused group is the one from before it.
-fn concluded(run: LentRun, count: usize, own: &[u64], first: &[u64], second: &[u64]) -> LentGroup
+fn concluded(
+    run: Result<LentHalf, RefusedBatch>,
+    count: usize,
+    own: &[u64],
+    first: &[u64],
+    second: &[u64],
+) -> (GroupAnswer, LentHalf)
     requires { (length own.now ≡ head_numbers) × ((length first.now ≡ head_numbers) × (length second.now ≡ head_numbers)) }
     ensures { ConcludedAs run count own.now first.now second.now result }
 {
     match run {
-        LentRun::Ended(half) => {
+        Ok(half) => {
             let cursor = cursor_in(half, own, first, second);
-            LentGroup::Answered(GroupAnswer::Taken { count, cursor }, half)
+            (GroupAnswer::Taken { count, cursor }, half)
         }
-        LentRun::Broke(place, result) => {
-            let disposition = result.disposition;
-            let diagnostics = result.diagnostics;
-            let replay_cursor = head_cursor(own);
+        Err(refused) => {
             let answer = ProjectionPatchApplicationResult {
-                disposition,
-                diagnostics,
-                replay_cursor,
+                replay_cursor: head_cursor(own),
+                ..refused.answer
             };
-            LentGroup::Answered(GroupAnswer::RefusedAt { place, answer }, LentHalf::Own)
+            let place = refused.place;
+            (GroupAnswer::RefusedAt { place, answer }, LentHalf::Own)
         }
     }
 }
@@ -106,7 +98,7 @@ fn send_all<'a>(
     second_availability: &mut [u8],
     second_entries: &mut [u8],
     second_lengths: &mut [u8],
-) -> LentRun
+) -> Result<LentHalf, RefusedBatch>
     requires { LeftFits left sets.now × ((length head.now ≡ head_numbers) × ((length first_head.old ≡ head_numbers) × (length second_head.old ≡ head_numbers))) }
     ensures holding { (m : Session) (l : List ℕ) → HeldIn (anchors_with nodes.now pairs.now collections.now) (half_with head.now bindings.now availability.now entries.now l) m
         → RoomIn (half_with first_head.old first_bindings.old first_availability.old first_entries.old first_lengths.old)
@@ -115,7 +107,7 @@ fn send_all<'a>(
         (half_with first_head.new first_bindings.new first_availability.new first_entries.new first_lengths.new) (half_with second_head.new second_bindings.new second_availability.new second_entries.new second_lengths.new) (run_left left m sets.now) }
     ensures whatever { RanFits result left.count }
 {
-    let sending = sending::send_until_applied(
+    let applied = sending::send_until_applied(
         head,
         nodes,
         pairs,
@@ -130,28 +122,27 @@ fn send_all<'a>(
         first_availability,
         first_entries,
         first_lengths,
-    );
-    match sending {
-        LentSending::Ended => LentRun::Ended(LentHalf::Own),
-        LentSending::Broke(place, result) => LentRun::Broke(place, result),
-        LentSending::Moved { place, at } => between::send_between(
-            nodes,
-            pairs,
-            collections,
-            places::left_from(left, place, at),
-            sets,
-            first_head,
-            first_bindings,
-            first_availability,
-            first_entries,
-            first_lengths,
-            second_head,
-            second_bindings,
-            second_availability,
-            second_entries,
-            second_lengths,
-        ),
-    }
+    )?;
+    let Some((place, at)) = applied else {
+        return Ok(LentHalf::Own);
+    };
+    between::send_between(
+        nodes,
+        pairs,
+        collections,
+        places::left_from(left, place, at),
+        sets,
+        first_head,
+        first_bindings,
+        first_availability,
+        first_entries,
+        first_lengths,
+        second_head,
+        second_bindings,
+        second_availability,
+        second_entries,
+        second_lengths,
+    )
 }
 
 // A group where the own half and the first half to work in have their shape; the second is looked at here.
@@ -176,51 +167,50 @@ fn apply_group<'a>(
     second_availability: &mut [u8],
     second_entries: &mut [u8],
     second_lengths: &mut [u8],
-) -> LentGroup
+) -> Option<(GroupAnswer, LentHalf)>
     requires { own_shaped (anchors_with nodes.now pairs.now collections.now) (half_with head.now bindings.now availability.now entries.now []) (half_with first_head.old first_bindings.old first_availability.old first_entries.old first_lengths.old) ≡ true }
     ensures { LentGroupCall (anchors_with nodes.now pairs.now collections.now) (half_with head.now bindings.now availability.now entries.now) batches count sets.now
         (half_with first_head.old first_bindings.old first_availability.old first_entries.old first_lengths.old) (half_with second_head.old second_bindings.old second_availability.old second_entries.old second_lengths.old) result
         (half_with first_head.new first_bindings.new first_availability.new first_entries.new first_lengths.new) (half_with second_head.new second_bindings.new second_availability.new second_entries.new second_lengths.new) }
 {
-    if work_shaped(
+    if !work_shaped(
         second_head,
         second_bindings.len(),
         second_availability.len(),
         second_entries.len(),
         second_lengths.len(),
     ) {
-        if session_group::is_group(batches, count, sets.len()) {
-            let left = places::first_left(batches, count);
-            let run = send_all(
-                head,
-                nodes,
-                pairs,
-                collections,
-                bindings,
-                availability,
-                entries,
-                left,
-                sets,
-                first_head,
-                first_bindings,
-                first_availability,
-                first_entries,
-                first_lengths,
-                second_head,
-                second_bindings,
-                second_availability,
-                second_entries,
-                second_lengths,
-            );
-            return concluded(run, count, head, first_head, second_head);
-        }
-        return LentGroup::Answered(GroupAnswer::NotAGroup, LentHalf::Own);
+        return None;
     }
-    LentGroup::NoSession
+    if !session_group::is_group(batches, count, sets.len()) {
+        return Some((GroupAnswer::NotAGroup, LentHalf::Own));
+    }
+    let run = send_all(
+        head,
+        nodes,
+        pairs,
+        collections,
+        bindings,
+        availability,
+        entries,
+        places::first_left(batches, count),
+        sets,
+        first_head,
+        first_bindings,
+        first_availability,
+        first_entries,
+        first_lengths,
+        second_head,
+        second_bindings,
+        second_availability,
+        second_entries,
+        second_lengths,
+    );
+    Some(concluded(run, count, head, first_head, second_head))
 }
 
 // All batches are taken as if sent singly in order, and the answer tells in which half the session stands then; or the session in the own half is
-// the one that stands. Both halves to work in can be lent to a later call, whatever came of the group. Places behind the count are not looked at.
+// the one that stands. None where the slices cannot hold a session: one has another length, or a count is over its capacity. Both halves to work in can be lent to a later call, whatever came of the group. Places behind the count are not looked at.
 pub fn apply_projection_patch_batches<'a>(
     head: &[u64],
     nodes: &[u64],
@@ -242,12 +232,12 @@ pub fn apply_projection_patch_batches<'a>(
     second_availability: &mut [u8],
     second_entries: &mut [u8],
     second_lengths: &mut [u8],
-) -> LentGroup
+) -> Option<(GroupAnswer, LentHalf)>
     ensures { LentGroupCall (anchors_with nodes.now pairs.now collections.now) (half_with head.now bindings.now availability.now entries.now) batches count sets.now
         (half_with first_head.old first_bindings.old first_availability.old first_entries.old first_lengths.old) (half_with second_head.old second_bindings.old second_availability.old second_entries.old second_lengths.old) result
         (half_with first_head.new first_bindings.new first_availability.new first_entries.new first_lengths.new) (half_with second_head.new second_bindings.new second_availability.new second_entries.new second_lengths.new) }
 {
-    if shape::memory_shaped(
+    if !shape::memory_shaped(
         nodes.len(),
         pairs.len(),
         collections.len(),
@@ -261,28 +251,28 @@ pub fn apply_projection_patch_batches<'a>(
         first_entries.len(),
         first_lengths.len(),
     ) {
-        return apply_group(
-            head,
-            nodes,
-            pairs,
-            collections,
-            bindings,
-            availability,
-            entries,
-            batches,
-            count,
-            sets,
-            first_head,
-            first_bindings,
-            first_availability,
-            first_entries,
-            first_lengths,
-            second_head,
-            second_bindings,
-            second_availability,
-            second_entries,
-            second_lengths,
-        );
+        return None;
     }
-    LentGroup::NoSession
+    apply_group(
+        head,
+        nodes,
+        pairs,
+        collections,
+        bindings,
+        availability,
+        entries,
+        batches,
+        count,
+        sets,
+        first_head,
+        first_bindings,
+        first_availability,
+        first_entries,
+        first_lengths,
+        second_head,
+        second_bindings,
+        second_availability,
+        second_entries,
+        second_lengths,
+    )
 }

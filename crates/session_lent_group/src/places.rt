@@ -1,6 +1,6 @@
 // What is left of a group on its way, and where its session stands.
 ghost use Rattle.std.specs.Prelude.{◌≡◌};
-ghost use Rattle.session_lent_group.specs.Sendings.{whole_group, left_from, turned_to};
+ghost use Rattle.session_lent_group.specs.Sendings.{whole_group, left_from, turned_half};
 
 use session_group::GroupBatch;
 use session_steps::answers::ProjectionPatchApplicationResult;
@@ -22,20 +22,11 @@ pub struct GroupLeft {
     pub at: usize,
 }
 
-// What came of batches that were sent from one half to another: none is left; one was refused; or one was applied, and those from this place on
-// are left.
-#[derive(Drop)]
-pub enum LentSending {
-    Ended,
-    Broke(usize, ProjectionPatchApplicationResult),
-    Moved { place: usize, at: usize },
-}
-
-// What came of all that were left: where the session stands in the end, or the place and the answer of the first that was refused.
-#[derive(Drop)]
-pub enum LentRun {
-    Ended(LentHalf),
-    Broke(usize, ProjectionPatchApplicationResult),
+// The first batch that was refused, by its place, and its answer.
+#[derive(Clone, Copy)]
+pub struct RefusedBatch {
+    pub place: usize,
+    pub answer: ProjectionPatchApplicationResult,
 }
 
 // A whole group.
@@ -54,22 +45,16 @@ pub(crate) fn first_left(batches: [GroupBatch; GroupBatch::MOST], count: usize) 
 pub(crate) fn left_from(left: GroupLeft, place: usize, at: usize) -> GroupLeft
     ensures { result ≡ left_from left place at }
 {
-    let mut next = left;
-    next.place = place;
-    next.at = at;
-    next
+    GroupLeft { place, at, ..left }
 }
 
-// The same run, told with the two halves exchanged.
-pub(crate) fn turned(run: LentRun) -> LentRun
-    ensures { result ≡ turned_to run }
+// The half, told with the two to work in exchanged.
+pub(crate) fn turned(half: LentHalf) -> LentHalf
+    ensures { result ≡ turned_half half }
 {
-    let LentRun::Ended(half) = run else {
-        return run;
-    };
     match half {
-        LentHalf::Own => LentRun::Ended(LentHalf::Own),
-        LentHalf::First => LentRun::Ended(LentHalf::Second),
-        LentHalf::Second => LentRun::Ended(LentHalf::First),
+        LentHalf::Own => LentHalf::Own,
+        LentHalf::First => LentHalf::Second,
+        LentHalf::Second => LentHalf::First,
     }
 }

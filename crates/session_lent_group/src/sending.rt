@@ -6,10 +6,10 @@ ghost use Rattle.session_lent.specs.Halves.{anchors_with, half_with, HeldIn, Roo
 ghost use Rattle.session_lent_group.specs.Sendings.{LeftFits, run_left, SentOn, SentFits};
 
 use crate::one;
-use crate::places::{GroupLeft, LentSending};
+use crate::places::{GroupLeft, RefusedBatch};
 use session_steps::answers::ProjectionPatchApplicationDisposition;
 
-// A batch without patches leaves the session, so that the next one goes from the same half to the same other.
+// The place behind the batch that was applied, and the byte behind its set; none where no batch was. A batch without patches leaves the session, so that the next one goes from the same half to the same other.
 pub(crate) fn send_until_applied<'a>(
     head: &[u64],
     nodes: &[u64],
@@ -25,7 +25,7 @@ pub(crate) fn send_until_applied<'a>(
     to_availability: &mut [u8],
     to_entries: &mut [u8],
     to_lengths: &mut [u8],
-) -> LentSending
+) -> Result<Option<(usize, usize)>, RefusedBatch>
     requires { LeftFits left sets.now × ((length head.now ≡ head_numbers) × (length to_head.old ≡ head_numbers)) }
     ensures holding { (m : Session) (l : List ℕ) → HeldIn (anchors_with nodes.now pairs.now collections.now) (half_with head.now bindings.now availability.now entries.now l) m
         → RoomIn (half_with to_head.old to_bindings.old to_availability.old to_entries.old to_lengths.old)
@@ -39,7 +39,7 @@ pub(crate) fn send_until_applied<'a>(
     while place < count {
         let batch = batches[place];
         let end = at + batch.bytes;
-        let result = one::send_one(
+        let answer = one::send_one(
             head,
             nodes,
             pairs,
@@ -55,19 +55,16 @@ pub(crate) fn send_until_applied<'a>(
             to_entries,
             to_lengths,
         );
-        let disposition = result.disposition;
-        match disposition {
-            ProjectionPatchApplicationDisposition::Applied => return LentSending::Moved {
-                place: place + 1,
-                at: end,
-            },
+        match answer.disposition {
+            ProjectionPatchApplicationDisposition::Applied => return Ok(Some((place + 1, end))),
             ProjectionPatchApplicationDisposition::NoChange => {}
-            ProjectionPatchApplicationDisposition::Rejected => return LentSending::Broke(
-                place, result,
-            ),
+            ProjectionPatchApplicationDisposition::Rejected => return Err(RefusedBatch {
+                place,
+                answer,
+            }),
         }
         at = end;
         place += 1;
     }
-    LentSending::Ended
+    Ok(None)
 }

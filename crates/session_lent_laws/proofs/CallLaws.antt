@@ -1,4 +1,5 @@
 -- Each call on lent memory gives the answer of the call by value, and leaves the bytes of the struct that is handed back.
+use Rattle.std.specs.Prelude.{Option, Some, None, Result, Ok, Err}
 use Rattle.std.specs.Prelude.{ℕ, ◌≡◌, true, List, length}
 use Rattle.std.proofs.Common.{sym, ap, subst, ◌∙◌, arith, eq-eqb}
 use Rattle.spec_patch.specs.Edition.{Edition}
@@ -28,11 +29,8 @@ use Rattle.session_lent.specs.Batches.{SameHalf, NextIn, LentStep, memory_shaped
 use Rattle.session_lent.specs.BatchesLaws.{held_half, held_anchors, room_half}
 use Rattle.session_lent.specs.CreationLaws.{creation_became}
 use Rattle.session_lent.specs.LifecycleLaws.{transition_became}
-use Rattle.session_lent.specs.declared.creation.LentCreation.{LentCreation}
-use Rattle.session_lent.specs.declared.lifecycle.LentTransition.{LentTransition}
-use Rattle.session_lent.specs.declared.lifecycle.LentTransition.TheVariants as transition
-use Rattle.session_lent.specs.declared.batch.LentBatch.{LentBatch}
-use Rattle.session_lent.specs.declared.batch.LentBatch.TheVariants as answer
+use Rattle.session_lent.specs.declared.creation.LentCreationRefusal.{LentCreationRefusal}
+use Rattle.session_lifecycle.specs.declared.lifecycle.ShellTransitionResult.{ShellTransitionResult}
 use Rattle.session_lent.specs.HalvesLaws.{held_room}
 use Rattle.session_lent.specs.Halves.{Anchors, Half, HeldIn, RoomIn}
 use Rattle.session_lent_laws.specs.Memory.{Memory, Panel, LentBatchCall, exchanged, struct_in}
@@ -43,7 +41,7 @@ use Rattle.session_lent_laws.proofs.AnswerLaws.{batch_answer_same, step_answer_s
 -- ---- creation
 
 pub creation_alike : (id : ℕ) (limits : Limits) (k : Anchors) (h : Half) → room_shaped (length h.head) (length k.pairs) (length h.bindings) (length h.availability) (length h.entries) (length h.lengths) ≡ true
-    → (c : Catalogue) → Lent c k.nodes k.pairs k.collections → (r : LentCreation) (h' : Half)
+    → (c : Catalogue) → Lent c k.nodes k.pairs k.collections → (r : Result (Unit {0}) LentCreationRefusal) (h' : Half)
     → CreationCall id limits k.nodes k.pairs k.collections h.head h.bindings h.availability h.entries h.lengths r h'.head h'.bindings h'.availability h'.entries h'.lengths
     → (s : ShellSessionCreation) → Creates (create id limits c) s → CreationAlike r k h' s
 unfolding Creates
@@ -58,13 +56,13 @@ creation_alike id limits k h room c lent r h' call s by_value =
 
 pub transition_alike : (s : ShellSession) (k : Anchors) (h : Half) (m : Session) → Holds s m → HeldIn k h m → (u : Stimulus) (n : ℕ) (t : ShellTransition)
     → ((x : Session) → Holds s x → (answer_of t.result ≡ (lifecycle_step x u n).answer) × Holds t.session (lifecycle_step x u n).next)
-    → (r : LentTransition) (head' : List ℕ) → TransitionCall h.head u n r head' → TransitionAlike k (with_head h head') r t (lifecycle_step m u n).next
+    → (r : Option ShellTransitionResult) (head' : List ℕ) → TransitionCall h.head u n r head' → TransitionAlike k (with_head h head') r t (lifecycle_step m u n).next
 transition_alike s k h m by_value held u n t step r head' call =
     let told = call.answered (lent_head_long h.head m held.head_is) in
     let became = transition_became told m k.nodes k.pairs k.collections h.bindings h.availability h.entries h.lengths held in
     let own = step m by_value in
     record {
-      answer = told.told ∙ ap transition.Answered (step_answer_same told.result t.result (became.answer ∙ sym own.0));
+      answer = told.told ∙ ap Some (step_answer_same told.result t.result (became.answer ∙ sym own.0));
       session = same_bytes k (with_head h head') (lifecycle_step m u n).next became.next t.session own.1;
       by_value = own.1;
       lent = became.next;
@@ -82,7 +80,7 @@ memory_fits ed v declared set k p m panel = rw (
   eq-eqb (length p.other.lengths) length_bytes panel.room.tables.collections,
 )
 
-module _ (ed : Edition) (v : BatchEnvelope) (declared : ℕ) (set : List ℕ) (k : Anchors) (p : Memory) (m : Session) (panel : Panel k p m) (r : LentBatch) (w : Half) (t : PlanTables) (call : LentBatchCall ed v declared set k p r w t) where
+module _ (ed : Edition) (v : BatchEnvelope) (declared : ℕ) (set : List ℕ) (k : Anchors) (p : Memory) (m : Session) (panel : Panel k p m) (r : Option ProjectionPatchApplicationResult) (w : Half) (t : PlanTables) (call : LentBatchCall ed v declared set k p r w t) where
   abbrev other : Half
   other = p.other
 
@@ -92,7 +90,7 @@ module _ (ed : Edition) (v : BatchEnvelope) (declared : ℕ) (set : List ℕ) (k
   abbrev result : ProjectionPatchApplicationResult
   result = (call.0.answered fits).0
 
-  is_answered : r ≡ answer.Answered result
+  is_answered : r ≡ Some result
   is_answered = (call.0.answered fits).1.0
 
   abbrev next : Session
@@ -121,31 +119,31 @@ module _ (ed : Edition) (v : BatchEnvelope) (declared : ℕ) (set : List ℕ) (k
       go Rejected e kept = stays e (kept (λ q. absurd (let z : ◌≡◌ {A = ℕ} 0 1 = cc in omega arith)))
 
 -- an answer has one result
-result_in : ProjectionPatchApplicationResult → LentBatch → ProjectionPatchApplicationResult
-result_in d (answer.Answered x) = x
-result_in d answer.NoSession = d
+result_in : ProjectionPatchApplicationResult → Option ProjectionPatchApplicationResult → ProjectionPatchApplicationResult
+result_in d (Some x) = x
+result_in d None = d
 
-answered_same : (a b : ProjectionPatchApplicationResult) → answer.Answered a ≡ answer.Answered b → a ≡ b
+answered_same : (a b : ProjectionPatchApplicationResult) → Some a ≡ Some b → a ≡ b
 unfolding result_in
 answered_same a b e = ap (result_in a) e
 
 -- the memory afterwards holds the next session, and has room again
 pub lent_goes_on : (ed : Edition) (v : BatchEnvelope) (declared : ℕ) (set : List ℕ) (k : Anchors) (p : Memory) (m : Session) → Panel k p m → (result : ProjectionPatchApplicationResult) (w : Half) (t : PlanTables)
-    → LentBatchCall ed v declared set k p (answer.Answered result) w t → Panel k (exchanged result.disposition p.held w t) (batch ed m v declared set).next
+    → LentBatchCall ed v declared set k p (Some result) w t → Panel k (exchanged result.disposition p.held w t) (batch ed m v declared set).next
 lent_goes_on ed v declared set k p m panel res w t call =
-    let same = answered_same res (result ed v declared set k p m panel (answer.Answered res) w t call) (is_answered ed v declared set k p m panel (answer.Answered res) w t call) in
-    subst (λ (x : ProjectionPatchApplicationResult). Panel k (exchanged x.disposition p.held w t) (batch ed m v declared set).next) (sym same) (panel_next ed v declared set k p m panel (answer.Answered res) w t call)
+    let same = answered_same res (result ed v declared set k p m panel (Some res) w t call) (is_answered ed v declared set k p m panel (Some res) w t call) in
+    subst (λ (x : ProjectionPatchApplicationResult). Panel k (exchanged x.disposition p.held w t) (batch ed m v declared set).next) (sym same) (panel_next ed v declared set k p m panel (Some res) w t call)
 
 -- the struct that has the bytes of the memory before, that of the memory afterwards, and the answer are related as the call by value relates them
 pub lent_is_call : (ed : Edition) (e : OrderedProjectionPatchBatchEnvelope) (declared : ℕ) (set : List ℕ) (k : Anchors) (p : Memory) (m : Session) → Panel k p m → (result : ProjectionPatchApplicationResult) (w : Half) (t : PlanTables)
-    → LentBatchCall ed (batch_envelope_of e) declared set k p (answer.Answered result) w t
+    → LentBatchCall ed (batch_envelope_of e) declared set k p (Some result) w t
     → struct.BatchCall (struct_in k p.held) e declared set ed (struct.batch_of (struct_in k (exchanged result.disposition p.held w t).held) result)
 lent_is_call ed e declared set k p m panel res w t call =
-    let told = is_answered ed (batch_envelope_of e) declared set k p m panel (answer.Answered res) w t call in
-    let same = answered_same res (result ed (batch_envelope_of e) declared set k p m panel (answer.Answered res) w t call) told in
+    let told = is_answered ed (batch_envelope_of e) declared set k p m panel (Some res) w t call in
+    let same = answered_same res (result ed (batch_envelope_of e) declared set k p m panel (Some res) w t call) told in
     let after = lent_goes_on ed (batch_envelope_of e) declared set k p m panel res w t call in
     let own : struct.BatchBecame (struct.batch_of (struct_in k (exchanged res.disposition p.held w t).held) res) (batch ed m (batch_envelope_of e) declared set) = record {
-      answer = ap (λ (x : ProjectionPatchApplicationResult). batch_answer_of x) same ∙ (step ed (batch_envelope_of e) declared set k p m panel (answer.Answered res) w t call).answer;
+      answer = ap (λ (x : ProjectionPatchApplicationResult). batch_answer_of x) same ∙ (step ed (batch_envelope_of e) declared set k p m panel (Some res) w t call).answer;
       next = struct_holds k (exchanged res.disposition p.held w t).held (batch ed m (batch_envelope_of e) declared set).next after.held;
     } in
     record {
@@ -154,7 +152,7 @@ lent_is_call ed e declared set k p m panel res w t call =
     }
 
 pub batch_alike : (s : ShellSession) (k : Anchors) (p : Memory) (m : Session) → Holds s m → Panel k p m → (ed : Edition) (e : OrderedProjectionPatchBatchEnvelope) (declared : ℕ) (set : List ℕ)
-    → (b : ProjectionPatchBatch) → struct.BatchCall s e declared set ed b → (r : LentBatch) (w : Half) (t : PlanTables) → LentBatchCall ed (batch_envelope_of e) declared set k p r w t
+    → (b : ProjectionPatchBatch) → struct.BatchCall s e declared set ed b → (r : Option ProjectionPatchApplicationResult) (w : Half) (t : PlanTables) → LentBatchCall ed (batch_envelope_of e) declared set k p r w t
     → BatchAlike k (exchanged b.result.disposition p.held w t) r b (batch ed m (batch_envelope_of e) declared set).next
 batch_alike s k p m by_value panel ed e declared set b value r w t call =
     let own = value.became m by_value in
@@ -162,7 +160,7 @@ batch_alike s k p m by_value panel ed e declared set b value r w t call =
     let same = batch_answer_same (result ed v declared set k p m panel r w t call) b.result ((step ed v declared set k p m panel r w t call).answer ∙ sym own.answer) in
     let after = subst (λ (x : ProjectionPatchApplicationResult). Panel k (exchanged x.disposition p.held w t) (batch ed m v declared set).next) same (panel_next ed v declared set k p m panel r w t call) in
     record {
-      answer = is_answered ed v declared set k p m panel r w t call ∙ ap answer.Answered same;
+      answer = is_answered ed v declared set k p m panel r w t call ∙ ap Some same;
       session = same_bytes k (exchanged b.result.disposition p.held w t).held (batch ed m v declared set).next after.held b.session own.next;
       by_value = own.next;
       lent = after;

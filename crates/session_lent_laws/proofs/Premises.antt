@@ -1,5 +1,6 @@
 -- The law on whole and pieces in lent memory speaks of something: calls with four patches, and with two and two of them, that put a key in and take
 -- it out.
+use Rattle.std.specs.Prelude.{Some}
 use Rattle.std.specs.Prelude.{ℕ, ◌<◌, ◌≡◌, true, false, List, [], ◌∷◌, map, length, get_or}
 use Rattle.std.proofs.Math.Path.{refl, sym, ap, ap₂, subst}
 use Rattle.std.proofs.Common.{◌∙◌, arith}
@@ -37,7 +38,6 @@ use Rattle.session_lent.specs.Head.{state_at, limits_at}
 use Rattle.session_lent.specs.HeadLaws.{state_told, limits_told, counts_told}
 use Rattle.session_lent.specs.LentSession.{LentSession}
 use Rattle.session_lent.specs.Batches.{LentStep}
-use Rattle.session_lent.specs.declared.batch.LentBatch.TheVariants.{Answered}
 use Rattle.session_lent.specs.Halves.{Anchors, Half, HeldIn}
 use Rattle.session_lent_laws.specs.Memory.{Memory, Panel, LentBatchCall, pairs_in}
 use Rattle.session_lent_laws.specs.Calls.{LentCall, LentSent, AllAppliedIn}
@@ -98,7 +98,7 @@ module _ (ed : Edition) (m : Session) (few : FewAnchors m.catalogue) (p : Memory
   next_held : HeldIn (instance_anchors m.catalogue) (half_of next) next
   next_held = subst (λ (c : Catalogue). HeldIn (instance_anchors c) (half_of next) next) kept (half_holds next (subst FewAnchors (sym kept) few) (rw left empty_valid))
 
-  some_call : LentBatchCall ed v declared set (instance_anchors m.catalogue) p (Answered (applied_at v.sequence)) (half_of next) no_plan
+  some_call : LentBatchCall ed v declared set (instance_anchors m.catalogue) p (Some (applied_at v.sequence)) (half_of next) no_plan
   unfolding disposition_told cursor_of step.state_of
   some_call = (
     record {

@@ -1,5 +1,6 @@
 -- Batches sent to a session in lent memory one after the other, linked by the relation that the lent call promises: 01, 'Whole and pieces'. Beside
 -- them the calls by value that they stand for.
+use Rattle.std.specs.Prelude.{Some}
 use Rattle.std.specs.Prelude.{ℕ, ◌+◌, ◌-◌, ◌≡◌, List, [], ◌∷◌, length, get_or}
 use Rattle.spec_lists.specs.Lists.{All}
 use Rattle.spec_patch.specs.Edition.{Edition}
@@ -14,7 +15,6 @@ use Rattle.shell_player.specs.Batches.{batch_of}
 use Rattle.shell_player.specs.declared.batch.ProjectionPatchBatch.{ProjectionPatchBatch}
 use Rattle.session_splitting.specs.Calls.{UnlessRejected}
 use Rattle.session_lent.specs.Head.{state_at}
-use Rattle.session_lent.specs.declared.batch.LentBatch.TheVariants.{Answered}
 use Rattle.session_lent.specs.Halves.{Anchors, Half}
 use Rattle.session_lent_laws.specs.Memory.{Memory, LentBatchCall, exchanged, struct_in}
 
@@ -31,7 +31,7 @@ after_call p c = exchanged c.result.disposition p.held c.written c.plan
 -- a call with a piece: the id that the head tells, a sequence number, the true counts, the canonical bytes and their edition
 abbrev pub LentSent : Edition → Anchors → Memory → ℕ → Piece → LentCall → Type 0
 LentSent ed k p n q c =
-    LentBatchCall ed (record { session = get_or p.held.head 0 0; sequence = n; patches = length q.patches; stimulus_bytes = q.stimulus_bytes }) (references q) (encode ed q.patches) k p (Answered c.result) c.written c.plan
+    LentBatchCall ed (record { session = get_or p.held.head 0 0; sequence = n; patches = length q.patches; stimulus_bytes = q.stimulus_bytes }) (references q) (encode ed q.patches) k p (Some c.result) c.written c.plan
 
 -- piece i, from 0, carries the number n + i; each goes to the memory just left, until one is refused
 abbrev pub LentCalls : Edition → Anchors → Memory → ℕ → List Piece → List LentCall → Type 0

@@ -1,4 +1,5 @@
 -- The memory of a lent session, and the session by value that has the same numbers and bytes.
+use Rattle.std.specs.Prelude.{Option}
 use Rattle.std.specs.Prelude.{ℕ, List, [], ◌∷◌, length, get_or}
 use Rattle.spec_patch.specs.Edition.{Edition}
 use Rattle.spec_session.specs.Session.{Session}
@@ -14,7 +15,7 @@ use Rattle.shell_player.specs.declared.session.ShellSession.{ShellSession}
 use Rattle.session_lent.specs.Head.{state_at, limits_at, counts_at}
 use Rattle.session_lent.specs.Halves.{Anchors, Half, HeldIn, RoomIn}
 use Rattle.session_lent.specs.Batches.{BatchCallOnSlices, PlanGivenBack}
-use Rattle.session_lent.specs.declared.batch.LentBatch.{LentBatch}
+use Rattle.session_steps.specs.declared.answers.ProjectionPatchApplicationResult.{ProjectionPatchApplicationResult}
 
 -- ---- lent slices
 
@@ -31,7 +32,7 @@ pub record Panel (k : Anchors) (p : Memory) (m : Session) : Type 0 where
   pub clear : ClearPlan p.plan
 
 -- the relation of the lent batch call: what it is told, the memory, its answer, and what it leaves in the other half and in the plan's memory
-abbrev pub LentBatchCall : Edition → BatchEnvelope → ℕ → List ℕ → Anchors → Memory → LentBatch → Half → PlanTables → Type 0
+abbrev pub LentBatchCall : Edition → BatchEnvelope → ℕ → List ℕ → Anchors → Memory → Option ProjectionPatchApplicationResult → Half → PlanTables → Type 0
 LentBatchCall ed v declared set k p r w t =
     BatchCallOnSlices ed v declared set p.held.head k.nodes k.pairs k.collections p.held.bindings p.held.availability p.held.entries
     p.other.head p.other.bindings p.other.availability p.other.entries p.other.lengths p.plan r w.head w.bindings w.availability w.entries w.lengths

@@ -7,12 +7,6 @@ use Rattle.session_turns.specs.declared.SenderTurns.{SenderTurns}
 use Rattle.session_turns.specs.declared.SetUpRefusal.{SetUpRefusal}
 use Rattle.session_turns.specs.declared.RegisterRefusal.{RegisterRefusal}
 use Rattle.session_turns.specs.declared.Turn.{Turn}
-use Rattle.session_lent_turns.specs.declared.LentSetUp.{LentSetUp}
-use Rattle.session_lent_turns.specs.declared.LentSetUp.TheVariants as lent-set-up
-use Rattle.session_lent_turns.specs.declared.LentRegistration.{LentRegistration}
-use Rattle.session_lent_turns.specs.declared.LentRegistration.TheVariants as lent-registration
-use Rattle.session_lent_turns.specs.declared.LentTurn.{LentTurn}
-use Rattle.session_lent_turns.specs.declared.LentTurn.TheVariants as lent-turn
 
 -- how many numbers tell the turns
 abbrev pub turns_numbers : ℕ
@@ -70,9 +64,9 @@ turn_numbers t =
 -- ---- what the calls answer and leave
 
 -- a slice of another length is left; of eleven numbers an answer is given, and what it leaves
-pub record TurnsCall {A B : Type 0} (noTurns : A) (answered : B → A) (t : List ℕ) (answer : B) (left : List ℕ) (r : A) (t' : List ℕ) : Type 0 where
-  pub other : (length t ≡ turns_numbers → ⊥) → (r ≡ noTurns) × (t' ≡ t)
-  pub eleven : length t ≡ turns_numbers → (r ≡ answered answer) × (t' ≡ left)
+pub record TurnsCall {B : Type 0} (t : List ℕ) (answer : B) (left : List ℕ) (r : Option B) (t' : List ℕ) : Type 0 where
+  pub other : (length t ≡ turns_numbers → ⊥) → (r ≡ None) × (t' ≡ t)
+  pub eleven : length t ≡ turns_numbers → (r ≡ Some answer) × (t' ≡ left)
 
 -- turns that were made, or what stood there
 abbrev pub set_up_left : List ℕ → Result SenderTurns SetUpRefusal → List ℕ
@@ -83,26 +77,26 @@ abbrev pub set_up_answered : Result SenderTurns SetUpRefusal → Result (Unit {0
 set_up_answered (Ok next) = Ok tt
 set_up_answered (Err f) = Err f
 
-abbrev pub SetUpCall : ℕ → (t : List ℕ) → LentSetUp → List ℕ → Type 0
+abbrev pub SetUpCall : ℕ → (t : List ℕ) → Option (Result (Unit {0}) SetUpRefusal) → List ℕ → Type 0
 SetUpCall senders t r t' =
     let made = set_up_to (model.set_up senders) in
-    TurnsCall lent-set-up.NoTurns lent-set-up.Answered t (set_up_answered made) (set_up_left t made) r t'
+    TurnsCall t (set_up_answered made) (set_up_left t made) r t'
 
 abbrev pub register_left : List ℕ → Result (Unit {0}) RegisterRefusal → SenderTurns → List ℕ
 register_left t (Ok u) next = turn_numbers next
 register_left t (Err f) next = t
 
-abbrev pub RegisterCall : ℕ → (t : List ℕ) → LentRegistration → List ℕ → Type 0
+abbrev pub RegisterCall : ℕ → (t : List ℕ) → Option (Result (Unit {0}) RegisterRefusal) → List ℕ → Type 0
 RegisterCall sender t r t' =
     let done = registration_to (turns_at t) (model.register (turns_of (turns_at t)) sender) in
-    TurnsCall lent-registration.NoTurns lent-registration.Answered t done.answer (register_left t done.answer done.turns) r t'
+    TurnsCall t done.answer (register_left t done.answer done.turns) r t'
 
 -- with none waiting nothing moves
 abbrev pub turn_left : List ℕ → Option Turn → SenderTurns → List ℕ
 turn_left t None next = t
 turn_left t (Some n) next = turn_numbers next
 
-abbrev pub TurnCall : Cursor → (t : List ℕ) → LentTurn → List ℕ → Type 0
+abbrev pub TurnCall : Cursor → (t : List ℕ) → Option (Option Turn) → List ℕ → Type 0
 TurnCall cursor t r t' =
     let done = turn_taken_to (turns_at t) (model.turn (turns_of (turns_at t)) cursor) in
-    TurnsCall lent-turn.NoTurns lent-turn.Answered t done.answer (turn_left t done.answer done.turns) r t'
+    TurnsCall t done.answer (turn_left t done.answer done.turns) r t'

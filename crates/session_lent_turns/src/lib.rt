@@ -45,10 +45,7 @@ fn turns_in(numbers: &[u64]) -> SenderTurns
 fn flag(waits: bool) -> u64
     ensures { result ≡ turn_flag waits }
 {
-    if waits {
-        return 1;
-    }
-    0
+    u64::from(waits)
 }
 
 fn named_kind(last: Option<usize>) -> u64
@@ -89,38 +86,19 @@ fn store_turns(turns: SenderTurns, numbers: &mut [u64])
     numbers[10] = named_number(last);
 }
 
-// What a call answers, or that the slice has not eleven numbers.
-#[derive(Drop)]
-pub enum LentSetUp {
-    Answered(Result<(), SetUpRefusal>),
-    NoTurns,
-}
-
-#[derive(Drop)]
-pub enum LentRegistration {
-    Answered(Result<(), RegisterRefusal>),
-    NoTurns,
-}
-
-#[derive(Drop)]
-pub enum LentTurn {
-    Answered(Option<Turn>),
-    NoTurns,
-}
-
-// One to eight senders, of whom nobody waits; a refusal leaves every number.
-pub fn set_up(numbers: &mut [u64], senders: usize) -> LentSetUp
+// One to eight senders, of whom nobody waits; none where the slice has not eleven numbers. A refusal leaves every number.
+pub fn set_up(numbers: &mut [u64], senders: usize) -> Option<Result<(), SetUpRefusal>>
     ensures { SetUpCall senders numbers.old result numbers.new }
 {
     if numbers.len() != NUMBERS {
-        return LentSetUp::NoTurns;
+        return None;
     }
     match SenderTurns::new(senders) {
         Ok(turns) => {
             store_turns(turns, numbers);
-            LentSetUp::Answered(Ok(()))
+            Some(Ok(()))
         }
-        Err(refusal) => LentSetUp::Answered(Err(refusal)),
+        Err(refusal) => Some(Err(refusal)),
     }
 }
 
@@ -135,19 +113,19 @@ fn keep_registration(answer: Result<(), RegisterRefusal>, turns: SenderTurns, nu
     }
 }
 
-// The sender waits from now on; a refusal leaves every number.
-pub fn register(numbers: &mut [u64], sender: usize) -> LentRegistration
+// The sender waits from now on; none where the slice has not eleven numbers. A refusal leaves every number.
+pub fn register(numbers: &mut [u64], sender: usize) -> Option<Result<(), RegisterRefusal>>
     ensures { RegisterCall sender numbers.old result numbers.new }
 {
     if numbers.len() != NUMBERS {
-        return LentRegistration::NoTurns;
+        return None;
     }
     let before_it = turns_in(numbers);
     let done = before_it.register(sender);
     let answer = done.answer;
     let turns = done.turns;
     keep_registration(answer, turns, numbers);
-    LentRegistration::Answered(answer)
+    Some(answer)
 }
 
 // Stores turns of which one was spent.
@@ -161,17 +139,17 @@ fn keep_turn(answer: Option<Turn>, turns: SenderTurns, numbers: &mut [u64])
     }
 }
 
-// Names the sender whose turn it is, which then waits no more; with none waiting every number stays. The cursor is the session's at this call.
-pub fn turn(numbers: &mut [u64], cursor: ProjectionReplayCursor) -> LentTurn
+// Names the sender whose turn it is, which then waits no more; none where the slice has not eleven numbers. With nobody waiting every number stays. The cursor is the session's at this call.
+pub fn turn(numbers: &mut [u64], cursor: ProjectionReplayCursor) -> Option<Option<Turn>>
     ensures { TurnCall (cursor_of cursor) numbers.old result numbers.new }
 {
     if numbers.len() != NUMBERS {
-        return LentTurn::NoTurns;
+        return None;
     }
     let before_it = turns_in(numbers);
     let done = before_it.turn(cursor);
     let answer = done.answer;
     let turns = done.turns;
     keep_turn(answer, turns, numbers);
-    LentTurn::Answered(answer)
+    Some(answer)
 }

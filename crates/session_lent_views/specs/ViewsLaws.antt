@@ -1,4 +1,5 @@
 -- Slices that hold a session have its shape and store its projection; and what a call answers, by whether the shape was right.
+use Rattle.std.specs.Prelude.{Option, Some, None}
 use Rattle.std.specs.Prelude.{ℕ, ◌≡◌, refl, Bool, true, false, ◌&&◌, List, leb, eqb, length}
 use Rattle.std.proofs.Common.{sym, ap, subst, ◌∙◌, arith, eq-eqb}
 use Rattle.std.proofs.lemmas.Bool.{false≢true}
@@ -15,8 +16,6 @@ use Rattle.session_lent.specs.Head.{head_numbers, counts_at}
 use Rattle.session_lent.specs.LentSession.{half_shaped, table_shaped, bindings_shaped, availabilities_shaped, entries_shaped}
 use Rattle.session_lent.specs.BatchesLaws.{held_half, held_tables}
 use Rattle.session_lent_views.specs.Views.{HoldsTables, HoldsBindings, HoldsAvailabilities, HoldsEntries, HoldsLengths, lengths_shaped, table_rows, Viewed, ViewWritten}
-use Rattle.session_lent_views.specs.declared.tables.TableRows.{TableRows}
-use Rattle.session_lent_views.specs.declared.tables.TableRows.TheVariants.{Rows, NoSession}
 
 -- ---- slices that hold a session
 
@@ -97,40 +96,40 @@ lengths_shaped_lem head l m h =
 
 -- ---- answers, by the shape
 
-pub rows_none : (shaped : Bool) (n : ℕ) (r : TableRows) → r ≡ table_rows shaped n → r ≡ NoSession → shaped ≡ false
+pub rows_none : (shaped : Bool) (n : ℕ) (r : Option ℕ) → r ≡ table_rows shaped n → r ≡ None → shaped ≡ false
 unfolding table_rows
 rows_none false n r is none = refl
-rows_none true n r is none = absurd (let z : ◌≡◌ {A = ℕ} 0 1 = cc in omega arith)
+rows_none true n r is none = cc
 
-pub rows_some : (shaped : Bool) (n : ℕ) (r : TableRows) (k : ℕ) → r ≡ table_rows shaped n → r ≡ Rows k → (shaped ≡ true) × (k ≡ n)
+pub rows_some : (shaped : Bool) (n : ℕ) (r : Option ℕ) (k : ℕ) → r ≡ table_rows shaped n → r ≡ Some k → (shaped ≡ true) × (k ≡ n)
 unfolding table_rows
 rows_some true n r k is some = (refl, cc)
-rows_some false n r k is some = absurd (let z : ◌≡◌ {A = ℕ} 0 1 = cc in omega arith)
+rows_some false n r k is some = cc
 
-module _ {A B : Type 0} {shaped : Bool} {no_session_lem : A} {answer : B → A} {Held : Session → Type 0} where
-  pub viewed_refused : {told : Session → B} (r : A) → r ≡ no_session_lem → shaped ≡ false → ((m : Session) → Held m → shaped ≡ true) → Viewed shaped no_session_lem answer Held told r
+module _ {B : Type 0} {shaped : Bool} {Held : Session → Type 0} where
+  pub viewed_refused : {told : Session → B} (r : Option B) → r ≡ None → shaped ≡ false → ((m : Session) → Held m → shaped ≡ true) → Viewed shaped Held told r
   viewed_refused r is wrong right = record {
     refused = λ no. is;
     answered = λ yes. absurd (false≢true (sym wrong ∙ yes));
     held = λ m h. absurd (false≢true (sym wrong ∙ right m h));
   }
 
-  pub viewed_answered : {told : Session → B} (x : B) → shaped ≡ true → ((m : Session) → Held m → x ≡ told m) → Viewed shaped no_session_lem answer Held told (answer x)
+  pub viewed_answered : {told : Session → B} (x : B) → shaped ≡ true → ((m : Session) → Held m → x ≡ told m) → Viewed shaped Held told (Some x)
   viewed_answered x right tells = record {
     refused = λ no. absurd (false≢true (sym no ∙ right));
     answered = λ yes. (x, refl);
-    held = λ m h. ap answer (tells m h);
+    held = λ m h. ap Some (tells m h);
   }
 
   module _ {Left : B → Type 0} {Told : Session → B → Type 0} where
-    pub written_refused : (out : List ℕ) → shaped ≡ false → ((m : Session) → Held m → shaped ≡ true) → ViewWritten shaped no_session_lem answer Held Left Told out no_session_lem out
-    written_refused out wrong right = record {
-      refused = λ no. (refl, refl);
+    pub written_refused : (out : List ℕ) (r : Option B) → r ≡ None → shaped ≡ false → ((m : Session) → Held m → shaped ≡ true) → ViewWritten shaped Held Left Told out r out
+    written_refused out r is wrong right = record {
+      refused = λ no. (is, refl);
       answered = λ yes. absurd (false≢true (sym wrong ∙ yes));
       held = λ m h. absurd (false≢true (sym wrong ∙ right m h));
     }
 
-    pub written_answered : (out out' : List ℕ) (x : B) → shaped ≡ true → Left x → ((m : Session) → Held m → Told m x) → ViewWritten shaped no_session_lem answer Held Left Told out (answer x) out'
+    pub written_answered : (out out' : List ℕ) (x : B) → shaped ≡ true → Left x → ((m : Session) → Held m → Told m x) → ViewWritten shaped Held Left Told out (Some x) out'
     written_answered out out' x right left tells = record {
       refused = λ no. absurd (false≢true (sym no ∙ right));
       answered = λ yes. (x, (refl, left));

@@ -4,27 +4,19 @@ ghost use Rattle.session_lent_views.specs.Views.{ListingCall};
 use patch_part_writer::written::WriteRefusal;
 use session_lent::{head, shape};
 
-// What was written, or that the slices cannot hold a session.
-#[derive(Drop)]
-pub enum LentListing {
-    Answered(Result<usize, WriteRefusal>),
-    NoSession,
-}
-
-// Writes the listing into a lent slice, whole or not at all: 14 and NoSession leave every byte.
+// Writes the listing into a lent slice, whole or not at all; none where the slices cannot hold a session. 14 and none leave every byte.
 pub fn write_projection(
     head: &[u64],
     bindings: &[u8],
     availability: &[u8],
     entries: &[u8],
     out: &mut [u8],
-) -> LentListing
+) -> Option<Result<usize, WriteRefusal>>
     ensures { ListingCall head.now bindings.now availability.now entries.now out.old result out.new }
 {
-    if shape::half_shaped(head, bindings.len(), availability.len(), entries.len()) {
-        let counts = head::counts_in(head);
-        let written = listing_panel::write_tables(bindings, availability, entries, counts, out);
-        return LentListing::Answered(written);
+    if !shape::half_shaped(head, bindings.len(), availability.len(), entries.len()) {
+        return None;
     }
-    LentListing::NoSession
+    let counts = head::counts_in(head);
+    Some(listing_panel::write_tables(bindings, availability, entries, counts, out))
 }

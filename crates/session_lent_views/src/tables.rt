@@ -7,32 +7,23 @@ ghost use Rattle.session_lent_views.specs.Views.{table_rows, lengths_shaped};
 use local_projection_state::LocalProjectionState;
 use session_lent::head;
 
-// So many rows, or head and table cannot be a session's: one has another length, or the count is over its capacity.
-#[derive(Drop)]
-pub enum TableRows {
-    Rows(usize),
-    NoSession,
-}
-
-// The rows of a table whose count has this place in the head.
-fn rows_at(head: &[u64], place: usize, table: usize, bytes: usize, capacity: usize) -> TableRows
+// The rows of a table whose count has this place in the head; none where head and table cannot be a session's: one has another length, or the
+// count is over its capacity.
+fn rows_at(head: &[u64], place: usize, table: usize, bytes: usize, capacity: usize) -> Option<usize>
     requires { place < head_numbers }
     ensures { result ≡ table_rows (table_shaped head.now (get_or head.now place 0) table bytes capacity) (get_or head.now place 0) }
 {
-    if head.len() != head::NUMBERS {
-        return TableRows::NoSession;
-    }
-    if table != bytes {
-        return TableRows::NoSession;
+    if head.len() != head::NUMBERS || table != bytes {
+        return None;
     }
     let count = head[place] as usize;
     if capacity < count {
-        return TableRows::NoSession;
+        return None;
     }
-    TableRows::Rows(count)
+    Some(count)
 }
 
-pub(crate) fn binding_rows(head: &[u64], table: usize) -> TableRows
+pub(crate) fn binding_rows(head: &[u64], table: usize) -> Option<usize>
     ensures { result ≡ table_rows (bindings_shaped head.now table) (counts_at head.now).bindings }
 {
     rows_at(
@@ -44,7 +35,7 @@ pub(crate) fn binding_rows(head: &[u64], table: usize) -> TableRows
     )
 }
 
-pub(crate) fn availability_rows(head: &[u64], table: usize) -> TableRows
+pub(crate) fn availability_rows(head: &[u64], table: usize) -> Option<usize>
     ensures { result ≡ table_rows (availabilities_shaped head.now table) (counts_at head.now).availabilities }
 {
     rows_at(
@@ -56,7 +47,7 @@ pub(crate) fn availability_rows(head: &[u64], table: usize) -> TableRows
     )
 }
 
-pub(crate) fn entry_rows(head: &[u64], table: usize) -> TableRows
+pub(crate) fn entry_rows(head: &[u64], table: usize) -> Option<usize>
     ensures { result ≡ table_rows (entries_shaped head.now table) (counts_at head.now).entries }
 {
     rows_at(
@@ -69,7 +60,7 @@ pub(crate) fn entry_rows(head: &[u64], table: usize) -> TableRows
 }
 
 // The entries that a table of lengths tells of.
-pub(crate) fn length_rows(head: &[u64], table: usize) -> TableRows
+pub(crate) fn length_rows(head: &[u64], table: usize) -> Option<usize>
     ensures { result ≡ table_rows (lengths_shaped head.now table) (counts_at head.now).entries }
 {
     rows_at(

@@ -1,10 +1,10 @@
 -- `register` meets its contract.
+use Rattle.std.specs.Prelude.{Some}
 use mathlib.Core.Path.{refl, ap, ◌∙◌}
 use Rattle.spec_turns.specs.Turns as model
 use Rattle.session_turns.specs.Meaning.{registration_to, turns_of}
 use Rattle.session_turns.specs.declared.SenderTurns.{SenderTurns}
 use Rattle.session_turns.specs.declared.Registration.{Registration}
-use Rattle.session_lent_turns.specs.declared.LentRegistration.TheVariants.{Answered}
 use Rattle.session_lent_turns.specs.LentTurns.{register_left}
 use borrow.Author.Rules.{rules}
 use Rattle.session_lent_turns.proofs.register.Goals as goal
@@ -17,5 +17,5 @@ returns c =
     let done = c.register-done.ensures ∙ ap (λ (t : SenderTurns). registration_to t (model.register (turns_of t) c.args.sender)) c.turns_in-before_it.ensures in
     record {
       other = λ no. absurd (no c.if-numbers-ne-NUMBERS.false);
-      eleven = λ yes. (ap (λ (m : Registration). Answered m.answer) done, c.keep_registration.ensures ∙ ap (λ (m : Registration). register_left c.args.numbers.now m.answer m.turns) done);
+      eleven = λ yes. (ap (λ (m : Registration). Some m.answer) done, c.keep_registration.ensures ∙ ap (λ (m : Registration). register_left c.args.numbers.now m.answer m.turns) done);
     }

@@ -1,9 +1,8 @@
 -- `set_up` meets its contract.
-use Rattle.std.specs.Prelude.{refl, Result}
+use Rattle.std.specs.Prelude.{refl, Result, Some}
 use Rattle.std.proofs.Common.{sym, ap, ◌∙◌}
 use Rattle.session_turns.specs.declared.SenderTurns.{SenderTurns}
 use Rattle.session_turns.specs.declared.SetUpRefusal.{SetUpRefusal}
-use Rattle.session_lent_turns.specs.declared.LentSetUp.TheVariants.{Answered}
 use Rattle.session_lent_turns.specs.LentTurns.{set_up_left, set_up_answered}
 use borrow.Author.Rules.{rules}
 use Rattle.session_lent_turns.proofs.set_up.Goals as goal
@@ -16,7 +15,7 @@ returns-in-Ok c =
     let made = sym c.in-Ok.is ∙ c.new.ensures in
     record {
       other = λ no. absurd (no c.if-numbers-ne-NUMBERS.false);
-      eleven = λ yes. (ap (λ (m : Result SenderTurns SetUpRefusal). Answered (set_up_answered m)) made, c.store_turns.ensures ∙ ap (set_up_left c.args.numbers.now) made);
+      eleven = λ yes. (ap (λ (m : Result SenderTurns SetUpRefusal). Some (set_up_answered m)) made, c.store_turns.ensures ∙ ap (set_up_left c.args.numbers.now) made);
     }
 
 pub returns-in-Err : goal.returns-in-Err
@@ -24,5 +23,5 @@ returns-in-Err c =
     let made = sym c.in-Err.is ∙ c.new.ensures in
     record {
       other = λ no. absurd (no c.if-numbers-ne-NUMBERS.false);
-      eleven = λ yes. (ap (λ (m : Result SenderTurns SetUpRefusal). Answered (set_up_answered m)) made, ap (set_up_left c.args.numbers.now) made);
+      eleven = λ yes. (ap (λ (m : Result SenderTurns SetUpRefusal). Some (set_up_answered m)) made, ap (set_up_left c.args.numbers.now) made);
     }

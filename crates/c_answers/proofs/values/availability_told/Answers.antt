@@ -4,9 +4,9 @@ use Rattle.c_answers.specs.Values.{availability_told}
 use borrow.Author.Rules.{rules}
 use Rattle.c_answers.proofs.values.availability_told.Goals as goal
 
-pub returns-in-Answered : goal.returns-in-Answered
-returns-in-Answered c =
-    (λ i. record { disposition = 0; found = c.bit.ensures i; mark = c.in-Answered.node.mark; availability = c.in-Answered.node.availability }) ∙ ap availability_told (sym c.in-Answered.is)
+pub returns-in-Some : goal.returns-in-Some
+returns-in-Some c =
+    (λ i. record { disposition = 0; found = c.bit.ensures i; mark = c.in-Some.node.mark; availability = c.in-Some.node.availability }) ∙ ap availability_told (sym c.in-Some.is)
 
-pub returns-in-NoSession : goal.returns-in-NoSession
-returns-in-NoSession c = ap availability_told (sym c.in-NoSession.is)
+pub returns-in-None : goal.returns-in-None
+returns-in-None c = ap availability_told (sym c.in-None.is)

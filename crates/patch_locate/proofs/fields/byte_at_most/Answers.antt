@@ -2,12 +2,13 @@
 use mathlib.Core.Path.{◌∙◌}
 use native.Mathlib.Omega.{arith}
 use Rattle.patch_locate.specs.Positions.{at_most_lacking, at_most_past, at_most_over}
-use borrow.Author.Rules.{rules}
+use Rattle.std.specs.Prelude.{Err}
+use Rattle.std.proofs.Common.{ap}
 use Rattle.patch_locate.proofs.fields.byte_at_most.Goals as goal
 
 pub returns-then-part-at : goal.returns-then-part-at
 returns-then-part-at c =
-    c.stop_at.ensures ∙ at_most_lacking c.args.part.now c.args.at c.args.rule c.args.highest (omega arith)
+    ap Err c.stop_at.ensures ∙ at_most_lacking c.args.part.now c.args.at c.args.rule c.args.highest (omega arith)
 
 pub returns-then-part-at-2 : goal.returns-then-part-at-2
 returns-then-part-at-2 c =
@@ -15,4 +16,4 @@ returns-then-part-at-2 c =
 
 pub returns : goal.returns
 returns c =
-    at_most_over c.args.part.now c.args.at c.args.rule c.args.highest (omega arith) (omega arith)
+    ap Err c.outside.ensures ∙ at_most_over c.args.part.now c.args.at c.args.rule c.args.highest (omega arith) (omega arith)

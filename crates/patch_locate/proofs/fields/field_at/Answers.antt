@@ -11,7 +11,6 @@ use Rattle.projection_patch.specs.Meaning.{edition_of}
 use Rattle.patch_locate.specs.Answers.{located_answer}
 use Rattle.patch_locate.specs.Fields.{field_of}
 use Rattle.patch_locate.specs.FieldsLaws.{availability_is}
-use borrow.Author.Rules.{rules}
 use Rattle.patch_locate.proofs.fields.field_at.Goals as goal
 
 module _ (ed : Edition) (l : ℕ) (bs : List ℕ) where

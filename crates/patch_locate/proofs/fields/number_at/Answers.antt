@@ -5,7 +5,8 @@ use native.Mathlib.Omega.{arith}
 use lib.ListN.{length}
 use borrow.Author.Tests.{leb-true, leb-false}
 use Rattle.patch_locate.specs.Positions.{number_past, number_stop}
-use borrow.Author.Rules.{rules}
+use Rattle.std.specs.Prelude.{Err}
+use Rattle.std.proofs.Common.{ap}
 use Rattle.patch_locate.proofs.fields.number_at.Goals as goal
 
 pub overflow_add-result : goal.overflow_add-result
@@ -18,4 +19,4 @@ returns-then-has_room c =
 
 pub returns : goal.returns
 returns c =
-    c.stop_at.ensures ∙ number_stop c.args.part.now c.args.at c.args.width (leb-false _ _ (sym c.has_room.ensures ∙ c.if-has_room.false)) (omega arith)
+    ap Err c.stop_at.ensures ∙ number_stop c.args.part.now c.args.at c.args.width (leb-false _ _ (sym c.has_room.ensures ∙ c.if-has_room.false)) (omega arith)

@@ -11,7 +11,7 @@ use Rattle.spec_explain.specs.Locate.{stop_at, field, TagRow, ◌⇒◌, by_row,
 use Rattle.patch_locate.specs.Answers.{located_answer}
 use Rattle.patch_locate.specs.Positions.{stop_here, past_here, tag_lacking, tag_there}
 use Rattle.patch_locate.specs.declared.rules.ReadingRule.TheVariants as rules
-use borrow.Author.Rules.{rules}
+use Rattle.std.specs.Prelude.{Err}
 use Rattle.patch_locate.proofs.fields.optional_at.Goals as goal
 use Rattle.patch_locate.proofs.fields.optional_at.Goals.{After-shared_slice_known-2-1}
 
@@ -36,7 +36,7 @@ other bs t rest a b = rw (ne_eqb t 0 a, ne_eqb t 1 b)
 pub returns-then-part-at : goal.returns-then-part-at
 unfolding locate_optional
 returns-then-part-at c =
-    c.stop_at.ensures ∙ tag_lacking c.args.part.now c.args.at (by_row optional_tag rows (drop c.args.at c.args.part.now)) (omega arith)
+    ap Err c.stop_at.ensures ∙ tag_lacking c.args.part.now c.args.at (by_row optional_tag rows (drop c.args.at c.args.part.now)) (omega arith)
 
 pub returns-in-0 : goal.returns-in-0
 unfolding by_row
@@ -50,6 +50,6 @@ returns-in-1 c =
 
 pub returns-in_default : goal.returns-in_default
 returns-in_default c =
-    stop_here (part (goal.at.returns-in_default c).After-shared_slice_known-2-1) (at (goal.at.returns-in_default c).After-shared_slice_known-2-1) rules.OptionalTag (omega arith)
+    ap Err c.outside.ensures ∙ stop_here (part (goal.at.returns-in_default c).After-shared_slice_known-2-1) (at (goal.at.returns-in_default c).After-shared_slice_known-2-1) rules.OptionalTag (omega arith)
     ∙ ap (located_answer (length (part (goal.at.returns-in_default c).After-shared_slice_known-2-1))) (sym (other (drop (at (goal.at.returns-in_default c).After-shared_slice_known-2-1) (part (goal.at.returns-in_default c).After-shared_slice_known-2-1)) (get_or (part (goal.at.returns-in_default c).After-shared_slice_known-2-1) (at (goal.at.returns-in_default c).After-shared_slice_known-2-1) 0) (drop (at (goal.at.returns-in_default c).After-shared_slice_known-2-1 + 1) (part (goal.at.returns-in_default c).After-shared_slice_known-2-1)) c.in_default.in_default-own.rest.0.1 c.in_default.in_default-own.rest.1))
     ∙ tagged (goal.at.returns-in_default c).After-shared_slice_known-2-1 (get_or (part (goal.at.returns-in_default c).After-shared_slice_known-2-1) (at (goal.at.returns-in_default c).After-shared_slice_known-2-1) 0) refl

@@ -13,7 +13,7 @@ use Rattle.patch_locate.specs.Answers.{located_answer}
 use Rattle.patch_locate.specs.FieldsLaws.{score_is}
 use Rattle.patch_locate.specs.Positions.{stop_here}
 use Rattle.patch_locate.specs.declared.rules.ReadingRule.TheVariants as rules
-use borrow.Author.Rules.{rules}
+use Rattle.std.specs.Prelude.{Err}
 use Rattle.patch_locate.proofs.fields.score_behind.Goals as goal
 
 with_scores : (ed : Edition) (bs rest : List ℕ) → has_kind ed 5 ≡ true → by_row value_kind (score_row ed) bs 5 rest ≡ locate_score rest
@@ -33,5 +33,5 @@ returns-then-has_scores c =
 
 pub returns : goal.returns
 returns c =
-    stop_here c.args.part.now c.args.at rules.ValueKind (omega arith)
+    ap Err c.outside.ensures ∙ stop_here c.args.part.now c.args.at rules.ValueKind (omega arith)
     ∙ ap (located_answer (length c.args.part.now)) (sym (without_scores (edition_of c.args.edition) (drop c.args.at c.args.part.now) (drop (c.args.at + 1) c.args.part.now) (sym c.has_scores.ensures ∙ c.if-has_scores.false)))

@@ -3,7 +3,8 @@ use mathlib.Core.Path.{◌∙◌}
 use native.Mathlib.Omega.{arith}
 use Rattle.projection_patch.proofs.At.{NumberAt, u32_at, u32_short}
 use Rattle.patch_locate.specs.TextPositions.{text_behind, length_lacking}
-use borrow.Author.Rules.{rules}
+use Rattle.std.specs.Prelude.{Err}
+use Rattle.std.proofs.Common.{ap}
 use Rattle.patch_locate.proofs.fields.text_at.Goals as goal
 use Rattle.patch_locate.proofs.fields.text_at.Goals.{In-Some}
 
@@ -20,4 +21,4 @@ returns-in-Some c =
 
 pub returns-in-None : goal.returns-in-None
 returns-in-None c =
-    c.stop_at.ensures ∙ length_lacking c.args.part.now c.args.at (u32_short c.args.part.now c.args.at c.read_u32_at.result c.read_u32_at.ensures c.in-None.is)
+    ap Err c.stop_at.ensures ∙ length_lacking c.args.part.now c.args.at (u32_short c.args.part.now c.args.at c.read_u32_at.result c.read_u32_at.ensures c.in-None.is)

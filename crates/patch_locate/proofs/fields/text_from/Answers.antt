@@ -8,7 +8,7 @@ use lib.ListN.{take, drop}
 use Rattle.projection_patch.specs.TextRule.{judgement}
 use Rattle.projection_patch.proofs.Texts.{judged_fits, judged_malformed, judged_many, lent_text}
 use Rattle.patch_locate.specs.TextPositions.{text_lacking, text_over, text_not_utf8, text_too_many, text_passed}
-use borrow.Author.Rules.{rules}
+use Rattle.std.specs.Prelude.{Err}
 use Rattle.patch_locate.proofs.fields.text_from.Goals as goal
 use Rattle.patch_locate.proofs.fields.text_from.Goals.{After-judge_text}
 
@@ -24,22 +24,22 @@ asked k =
 
 pub returns-then-part-start : goal.returns-then-part-start
 returns-then-part-start c =
-    text_lacking c.args.part.now c.args.at c.args.len (omega arith) (omega arith)
+    ap Err c.outside.ensures ∙ text_lacking c.args.part.now c.args.at c.args.len (omega arith) (omega arith)
 
 pub returns-then-len-gt-TEXT_BYTES : goal.returns-then-len-gt-TEXT_BYTES
 returns-then-len-gt-TEXT_BYTES c =
-    text_over c.args.part.now c.args.at c.args.len (omega arith) (omega arith) (omega arith)
+    ap Err c.outside-then-len-gt-TEXT_BYTES.ensures ∙ text_over c.args.part.now c.args.at c.args.len (omega arith) (omega arith) (omega arith)
 
-pub returns-in-Fits : goal.returns-in-Fits
-returns-in-Fits c =
-    let fits = judged_fits (text (goal.at.returns-in-Fits c).After-judge_text) (sym (asked (goal.at.returns-in-Fits c).After-judge_text) ∙ c.in-Fits.is) in
+pub returns-in-Ok : goal.returns-in-Ok
+returns-in-Ok c =
+    let fits = judged_fits (text (goal.at.returns-in-Ok c).After-judge_text) (sym (asked (goal.at.returns-in-Ok c).After-judge_text) ∙ c.in-Ok.is) in
     text_passed c.args.part.now c.args.at c.args.len (omega arith) (omega arith) (omega arith) fits.0 fits.1
 
-pub returns-in-Malformed : goal.returns-in-Malformed
-returns-in-Malformed c =
-    text_not_utf8 c.args.part.now c.args.at c.args.len (omega arith) (omega arith) (omega arith) (judged_malformed (text (goal.at.returns-in-Malformed c).After-judge_text) (sym (asked (goal.at.returns-in-Malformed c).After-judge_text) ∙ c.in-Malformed.is))
+pub returns-in-Err-Malformed : goal.returns-in-Err-Malformed
+returns-in-Err-Malformed c =
+    ap Err c.outside-in-Err-Malformed.ensures ∙ text_not_utf8 c.args.part.now c.args.at c.args.len (omega arith) (omega arith) (omega arith) (judged_malformed (text (goal.at.returns-in-Err-Malformed c).After-judge_text) (sym (asked (goal.at.returns-in-Err-Malformed c).After-judge_text) ∙ c.in-Err-Malformed.is ∙ ap Err c.in-Err-Malformed.field-0-is))
 
-pub returns-in-ManyCharacters : goal.returns-in-ManyCharacters
-returns-in-ManyCharacters c =
-    let many = judged_many (text (goal.at.returns-in-ManyCharacters c).After-judge_text) (sym (asked (goal.at.returns-in-ManyCharacters c).After-judge_text) ∙ c.in-ManyCharacters.is) in
-    text_too_many c.args.part.now c.args.at c.args.len (omega arith) (omega arith) (omega arith) many.0 many.1
+pub returns-in-Err-ManyCharacters : goal.returns-in-Err-ManyCharacters
+returns-in-Err-ManyCharacters c =
+    let many = judged_many (text (goal.at.returns-in-Err-ManyCharacters c).After-judge_text) (sym (asked (goal.at.returns-in-Err-ManyCharacters c).After-judge_text) ∙ c.in-Err-ManyCharacters.is ∙ ap Err c.in-Err-ManyCharacters.field-0-is) in
+    ap Err c.outside-in-Err-ManyCharacters.ensures ∙ text_too_many c.args.part.now c.args.at c.args.len (omega arith) (omega arith) (omega arith) many.0 many.1

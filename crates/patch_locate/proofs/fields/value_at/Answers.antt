@@ -14,7 +14,7 @@ use Rattle.patch_locate.specs.Answers.{located_answer}
 use Rattle.patch_locate.specs.FieldsLaws.{quad_is}
 use Rattle.patch_locate.specs.Positions.{stop_here, tag_lacking, tag_there}
 use Rattle.patch_locate.specs.declared.rules.ReadingRule.TheVariants as rules
-use borrow.Author.Rules.{rules}
+use Rattle.std.specs.Prelude.{Err}
 use Rattle.patch_locate.proofs.fields.value_at.Goals as goal
 use Rattle.patch_locate.proofs.fields.value_at.Goals.{After-shared_slice_known-2-1}
 
@@ -48,7 +48,7 @@ other ed bs t rest a b c d e = rw (ne_eqb t 1 a, ne_eqb t 2 b, ne_eqb t 3 c, ne_
 pub returns-then-part-at : goal.returns-then-part-at
 unfolding locate_value
 returns-then-part-at c =
-    c.stop_at.ensures ∙ tag_lacking c.args.part.now c.args.at (by_row value_kind (rows (edition_of c.args.edition)) (drop c.args.at c.args.part.now)) (omega arith)
+    ap Err c.stop_at.ensures ∙ tag_lacking c.args.part.now c.args.at (by_row value_kind (rows (edition_of c.args.edition)) (drop c.args.at c.args.part.now)) (omega arith)
 
 pub returns-in-1 : goal.returns-in-1
 unfolding by_row
@@ -77,6 +77,6 @@ returns-in-5 c =
 
 pub returns-in_default : goal.returns-in_default
 returns-in_default c =
-    stop_here (part (goal.at.returns-in_default c).After-shared_slice_known-2-1) (at (goal.at.returns-in_default c).After-shared_slice_known-2-1) rules.ValueKind (omega arith)
+    ap Err c.outside.ensures ∙ stop_here (part (goal.at.returns-in_default c).After-shared_slice_known-2-1) (at (goal.at.returns-in_default c).After-shared_slice_known-2-1) rules.ValueKind (omega arith)
     ∙ ap (located_answer (length (part (goal.at.returns-in_default c).After-shared_slice_known-2-1))) (sym (other (edition (goal.at.returns-in_default c).After-shared_slice_known-2-1) (drop (at (goal.at.returns-in_default c).After-shared_slice_known-2-1) (part (goal.at.returns-in_default c).After-shared_slice_known-2-1)) (get_or (part (goal.at.returns-in_default c).After-shared_slice_known-2-1) (at (goal.at.returns-in_default c).After-shared_slice_known-2-1) 0) (drop (at (goal.at.returns-in_default c).After-shared_slice_known-2-1 + 1) (part (goal.at.returns-in_default c).After-shared_slice_known-2-1)) c.in_default.in_default-own.rest.0.0.0.0.1 c.in_default.in_default-own.rest.0.0.0.1 c.in_default.in_default-own.rest.0.0.1 c.in_default.in_default-own.rest.0.1 c.in_default.in_default-own.rest.1))
     ∙ tagged (goal.at.returns-in_default c).After-shared_slice_known-2-1 (get_or (part (goal.at.returns-in_default c).After-shared_slice_known-2-1) (at (goal.at.returns-in_default c).After-shared_slice_known-2-1) 0) refl

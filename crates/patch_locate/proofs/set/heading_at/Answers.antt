@@ -9,7 +9,6 @@ use Rattle.spec_patch.specs.Encode.{heading}
 use Rattle.spec_explain.specs.Locate.{locate_letters}
 use Rattle.projection_patch.specs.Meaning.{edition_of}
 use Rattle.patch_locate.specs.Answers.{located_answer}
-use borrow.Author.Rules.{rules}
 use Rattle.patch_locate.proofs.set.heading_at.Goals as goal
 
 spelled_1 : 27 ∷ 0 ∷ 0 ∷ 0 ∷ 85 ∷ 73 ∷ 95 ∷ 68 ∷ 78 ∷ 65 ∷ 50 ∷ 95 ∷ 80 ∷ 82 ∷ 79 ∷ 74 ∷ 69 ∷ 67 ∷ 84 ∷ 73 ∷ 79 ∷ 78 ∷ 95 ∷ 80 ∷ 65 ∷ 84 ∷ 67 ∷ 72 ∷ 95 ∷ 86 ∷ 49 ∷ [] ≡ heading v1

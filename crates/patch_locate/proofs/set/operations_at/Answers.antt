@@ -1,5 +1,5 @@
 -- `patch_locate::set::operations_at` meets its contract: the operations that are left answer from the next position on as all of them do.
-use Prim.Native.Nat.{ℕ, ◌+◌, ◌-◌, ◌≤◌}
+use Prim.Native.Nat.{ℕ, ◌+◌, ◌-◌}
 use mathlib.Core.Path.{◌≡◌, sym, ap, ◌∙◌}
 use mathlib.Core.List.{List}
 use native.Mathlib.Omega.{arith}
@@ -12,7 +12,7 @@ use Rattle.patch_locate.specs.Fields.{operation_in}
 use Rattle.patch_locate.specs.Positions.{past_here, went, locates_on, locates_stop}
 use Rattle.patch_locate.specs.SetPositions.{repeated_start, repeated_turn, repeated_end, within_is, steady_operation_in}
 use Rattle.patch_locate.specs.declared.rules.Inside.TheVariants as insides
-use borrow.Author.Rules.{rules}
+use Rattle.std.proofs.lemmas.Result.{err_from_is_err_and}
 use Rattle.patch_locate.proofs.set.operations_at.Goals as goal
 use Rattle.patch_locate.proofs.set.operations_at.Goals.{After-within}
 
@@ -46,18 +46,19 @@ pub loop-j-init : goal.loop-j-init
 loop-j-init c =
     (omega arith, (omega arith, ap (located_answer (length c.args.set.now)) (repeated_start (operation_in (edition_of c.args.edition) c.args.patch) c.args.count (drop c.args.at c.args.set.now))))
 
-pub returns-in-Stop : goal.returns-in-Stop
-returns-in-Stop c =
-    locates_stop (one (goal.at.returns-in-Stop c).After-within) (others (goal.at.returns-in-Stop c).After-within) (set (goal.at.returns-in-Stop c).After-within) c.loop-j.next c.within.result (told (goal.at.returns-in-Stop c).After-within) c.in-Stop.rule c.in-Stop.inside c.in-Stop.position c.in-Stop.is
-    ∙ sym (turn (goal.at.returns-in-Stop c).After-within) ∙ c.loop-j.invariant.1.1
+pub returns-in_err-next : goal.returns-in_err-next
+returns-in_err-next c =
+    let p = err_from_is_err_and c.from_residual.result c.from_residual.ensures.1 in rw (p.1, p.2) (
+    locates_stop (one (goal.at.returns-in_err-next c).After-within) (others (goal.at.returns-in_err-next c).After-within) (set (goal.at.returns-in_err-next c).After-within) c.loop-j.next c.within.result (told (goal.at.returns-in_err-next c).After-within) _ c.in_err-next.was
+    ∙ sym (turn (goal.at.returns-in_err-next c).After-within) ∙ c.loop-j.invariant.1.1)
 
 pub loop-j-preserved : goal.loop-j-preserved
 loop-j-preserved c =
     let steady = steady_operation_in (edition (goal.at.loop-j-preserved c).After-within) (patch (goal.at.loop-j-preserved c).After-within) c.loop-j.j in (
-      (went steady (set (goal.at.loop-j-preserved c).After-within) c.loop-j.next c.within.result (told (goal.at.loop-j-preserved c).After-within) c.in-Past.end c.in-Past.is).within,
+      (went steady (set (goal.at.loop-j-preserved c).After-within) c.loop-j.next c.within.result (told (goal.at.loop-j-preserved c).After-within) _ c.in_ok-next.was).within,
       (
         omega arith,
-        locates_on steady (set (goal.at.loop-j-preserved c).After-within) c.loop-j.next c.within.result (told (goal.at.loop-j-preserved c).After-within) (others (goal.at.loop-j-preserved c).After-within) c.in-Past.end c.in-Past.is ∙ sym (turn (goal.at.loop-j-preserved c).After-within) ∙ c.loop-j.invariant.1.1,
+        locates_on steady (set (goal.at.loop-j-preserved c).After-within) c.loop-j.next c.within.result (told (goal.at.loop-j-preserved c).After-within) (others (goal.at.loop-j-preserved c).After-within) _ c.in_ok-next.was ∙ sym (turn (goal.at.loop-j-preserved c).After-within) ∙ c.loop-j.invariant.1.1,
       ),
     )
 

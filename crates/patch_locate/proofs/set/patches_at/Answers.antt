@@ -1,5 +1,5 @@
 -- `patch_locate::set::patches_at` meets its contract: the patches that are left answer from the next position on as all of them do.
-use Prim.Native.Nat.{ℕ, ◌+◌, ◌-◌, ◌≤◌}
+use Prim.Native.Nat.{ℕ, ◌+◌, ◌-◌}
 use mathlib.Core.Path.{◌≡◌, sym, ap, ◌∙◌}
 use mathlib.Core.List.{List}
 use native.Mathlib.Omega.{arith}
@@ -13,7 +13,7 @@ use Rattle.patch_locate.specs.Fields.{patch_fields}
 use Rattle.patch_locate.specs.Positions.{past_here, went, locates_on, locates_stop}
 use Rattle.patch_locate.specs.SetPositions.{repeated_start, repeated_turn, repeated_end, within_is, patch_located}
 use Rattle.patch_locate.specs.declared.rules.Inside.TheVariants as insides
-use borrow.Author.Rules.{rules}
+use Rattle.std.proofs.lemmas.Result.{err_from_is_err_and}
 use Rattle.patch_locate.proofs.set.patches_at.Goals as goal
 use Rattle.patch_locate.proofs.set.patches_at.Goals.{After-within}
 
@@ -45,18 +45,19 @@ pub loop-i-init : goal.loop-i-init
 loop-i-init c =
     (omega arith, (omega arith, ap (located_answer (length c.args.set.now)) (repeated_start (locate_patch (edition_of c.args.edition)) c.args.count (drop c.args.at c.args.set.now))))
 
-pub returns-in-Stop : goal.returns-in-Stop
-returns-in-Stop c =
-    locates_stop (one (goal.at.returns-in-Stop c).After-within) (others (goal.at.returns-in-Stop c).After-within) (set (goal.at.returns-in-Stop c).After-within) c.loop-i.next c.within.result (told (goal.at.returns-in-Stop c).After-within) c.in-Stop.rule c.in-Stop.inside c.in-Stop.position c.in-Stop.is
-    ∙ sym (turn (goal.at.returns-in-Stop c).After-within) ∙ c.loop-i.invariant.1.1
+pub returns-in_err-next : goal.returns-in_err-next
+returns-in_err-next c =
+    let p = err_from_is_err_and c.from_residual.result c.from_residual.ensures.1 in rw (p.1, p.2) (
+    locates_stop (one (goal.at.returns-in_err-next c).After-within) (others (goal.at.returns-in_err-next c).After-within) (set (goal.at.returns-in_err-next c).After-within) c.loop-i.next c.within.result (told (goal.at.returns-in_err-next c).After-within) _ c.in_err-next.was
+    ∙ sym (turn (goal.at.returns-in_err-next c).After-within) ∙ c.loop-i.invariant.1.1)
 
 pub loop-i-preserved : goal.loop-i-preserved
 loop-i-preserved c =
     let steady = steady_patch (edition (goal.at.loop-i-preserved c).After-within) c.loop-i.i in (
-      (went steady (set (goal.at.loop-i-preserved c).After-within) c.loop-i.next c.within.result (told (goal.at.loop-i-preserved c).After-within) c.in-Past.end c.in-Past.is).within,
+      (went steady (set (goal.at.loop-i-preserved c).After-within) c.loop-i.next c.within.result (told (goal.at.loop-i-preserved c).After-within) _ c.in_ok-next.was).within,
       (
         omega arith,
-        locates_on steady (set (goal.at.loop-i-preserved c).After-within) c.loop-i.next c.within.result (told (goal.at.loop-i-preserved c).After-within) (others (goal.at.loop-i-preserved c).After-within) c.in-Past.end c.in-Past.is ∙ sym (turn (goal.at.loop-i-preserved c).After-within) ∙ c.loop-i.invariant.1.1,
+        locates_on steady (set (goal.at.loop-i-preserved c).After-within) c.loop-i.next c.within.result (told (goal.at.loop-i-preserved c).After-within) (others (goal.at.loop-i-preserved c).After-within) _ c.in_ok-next.was ∙ sym (turn (goal.at.loop-i-preserved c).After-within) ∙ c.loop-i.invariant.1.1,
       ),
     )
 

@@ -7,7 +7,8 @@ use Rattle.projection_patch.specs.Meaning.{edition_of}
 use Rattle.projection_patch.proofs.At.{NumberAt, u32_at, u32_short}
 use Rattle.patch_locate.specs.SetPositions.{count_lacking, count_fits, count_over}
 use Rattle.patch_locate.specs.declared.rules.ReadingRule.TheVariants as rules
-use borrow.Author.Rules.{rules}
+use Rattle.std.specs.Prelude.{Err}
+use Rattle.std.proofs.Common.{ap}
 use Rattle.patch_locate.proofs.set.patches_counted.Goals as goal
 use Rattle.patch_locate.proofs.set.patches_counted.Goals.{In-Some}
 
@@ -17,7 +18,7 @@ got c =
 
 pub returns-in_default : goal.returns-in_default
 returns-in_default c =
-    c.stop_at.ensures ∙ count_lacking c.args.set.now c.args.at rules.PatchCount set_patches (locate_patch (edition_of c.args.edition)) (u32_short c.args.set.now c.args.at c.read_u32_at.result c.read_u32_at.ensures c.in_default.is)
+    ap Err c.stop_at.ensures ∙ count_lacking c.args.set.now c.args.at rules.PatchCount set_patches (locate_patch (edition_of c.args.edition)) (u32_short c.args.set.now c.args.at c.read_u32_at.result c.read_u32_at.ensures c.in_default.is)
 
 pub overflow_add-at : goal.overflow_add-at
 overflow_add-at c = omega (arith, (got (goal.at.overflow_add-at c).In-Some).room)
@@ -31,4 +32,4 @@ returns-then-count-le-PATCHES c =
 
 pub returns : goal.returns
 returns c =
-    count_over c.args.set.now c.args.at rules.PatchCount set_patches (locate_patch (edition_of c.args.edition)) _ (got (goal.at.returns c).In-Some).is (omega (arith, (got (goal.at.returns c).In-Some).room)) (omega arith)
+    ap Err c.outside.ensures ∙ count_over c.args.set.now c.args.at rules.PatchCount set_patches (locate_patch (edition_of c.args.edition)) _ (got (goal.at.returns c).In-Some).is (omega (arith, (got (goal.at.returns c).In-Some).room)) (omega arith)

@@ -7,16 +7,17 @@ use Rattle.spec_explain.specs.Locate.{counted, locate_patch, locate_letters, loc
 use Rattle.spec_explain.proofs.SteadySetLaws.{steady_letters}
 use Rattle.projection_patch.specs.Meaning.{edition_of}
 use Rattle.patch_locate.specs.Positions.{locates_on, locates_stop}
-use borrow.Author.Rules.{rules}
+use Rattle.std.proofs.lemmas.Result.{err_from_is_err_and}
 use Rattle.patch_locate.proofs.set.way.Goals as goal
 
-pub returns-in-Past : goal.returns-in-Past
+pub returns : goal.returns
 unfolding locate_patches
-returns-in-Past c =
+returns c =
     c.patches_counted.ensures
-    ∙ locates_on (steady_letters (heading (edition_of c.args.edition))) c.args.set.now 0 c.heading_at.result c.heading_at.ensures (counted patch_count set_patches (locate_patch (edition_of c.args.edition))) c.in-Past.at c.in-Past.is
+    ∙ locates_on (steady_letters (heading (edition_of c.args.edition))) c.args.set.now 0 c.heading_at.result c.heading_at.ensures (counted patch_count set_patches (locate_patch (edition_of c.args.edition))) _ c.in_ok-at.was
 
-pub returns-in-Stop : goal.returns-in-Stop
+pub returns-in_err-at : goal.returns-in_err-at
 unfolding locate_patches
-returns-in-Stop c =
-    locates_stop (locate_letters (heading (edition_of c.args.edition))) (counted patch_count set_patches (locate_patch (edition_of c.args.edition))) c.args.set.now 0 c.heading_at.result c.heading_at.ensures c.in-Stop.rule c.in-Stop.inside c.in-Stop.position c.in-Stop.is
+returns-in_err-at c =
+    let p = err_from_is_err_and c.from_residual.result c.from_residual.ensures.1 in rw (p.1, p.2) (
+    locates_stop (locate_letters (heading (edition_of c.args.edition))) (counted patch_count set_patches (locate_patch (edition_of c.args.edition))) c.args.set.now 0 c.heading_at.result c.heading_at.ensures _ c.in_err-at.was)

@@ -1,10 +1,13 @@
 -- `session_explain::checks::explain_checks` meets its contract: the preflight's reason, or else that of the set.
+use Rattle.std.proofs.lemmas.Result.{err_from_is_err_and}
 use Rattle.session_explain.specs.StepsLaws.{checks_because, checks_fine}
-use borrow.Author.Rules.{rules}
 use Rattle.session_explain.proofs.checks.explain_checks.Goals as goal
 
-pub returns-in-Because : goal.returns-in-Because
-returns-in-Because c = λ k lent. checks_because _ _ _ _ _ k _ _ _ c.explain_preflight.ensures c.in-Because.is
+pub returns-in_err : goal.returns-in_err
+returns-in_err c =
+    λ k lent.
+    let p = err_from_is_err_and c.from_residual.result c.from_residual.ensures.1 in
+    rw (p.1, p.2) (checks_because _ _ _ _ _ k _ _ _ c.explain_preflight.ensures c.in_err.was)
 
-pub returns-in-Fine : goal.returns-in-Fine
-returns-in-Fine c = λ k lent. checks_fine _ _ _ _ _ k _ _ _ c.explain_preflight.ensures c.in-Fine.is (c.explain_set.ensures k lent)
+pub returns : goal.returns
+returns c = λ k lent. checks_fine _ _ _ _ _ k _ _ _ c.explain_preflight.ensures c.in_ok.was (c.explain_set.ensures k lent)

@@ -1,7 +1,19 @@
 -- `session_explain::checks::explain_clean` meets its contract: the first of three reasons.
-use Rattle.session_explain.specs.StepsLaws.{clean_by_is}
-use borrow.Author.Rules.{rules}
+use Rattle.std.proofs.lemmas.Result.{err_from_is_err_and}
+use Rattle.session_explain.specs.StepsLaws.{clean_counts, clean_targets, clean_taken}
 use Rattle.session_explain.proofs.checks.explain_clean.Goals as goal
 
+pub returns-in_err : goal.returns-in_err
+returns-in_err c =
+    λ k ps lent r.
+    let p = err_from_is_err_and c.from_residual.result c.from_residual.ensures.1 in
+    rw (p.1, p.2) (clean_counts k _ _ _ _ _ _ _ ps c.explain_counts.ensures c.in_err.was)
+
+pub returns-in_err-2 : goal.returns-in_err-2
+returns-in_err-2 c =
+    λ k ps lent r.
+    let p = err_from_is_err_and c.from_residual.result c.from_residual.ensures.1 in
+    rw (p.1, p.2) (clean_targets k _ _ _ _ _ _ _ ps c.explain_counts.ensures c.in_ok.was (c.explain_targets.ensures k ps lent r) c.in_err-2.was)
+
 pub returns : goal.returns
-returns c = λ k ps lent r. clean_by_is _ _ _ _ _ _ _ _ _ c.explain_counts-counts.ensures (c.explain_targets-known.ensures k ps lent r) c.explain_cursor-taken.ensures c.first_of.ensures c.first_of-2.ensures
+returns c = λ k ps lent r. clean_taken k _ _ _ _ _ _ _ ps c.explain_counts.ensures c.in_ok.was (c.explain_targets.ensures k ps lent r) c.in_ok-2.was c.explain_cursor.ensures

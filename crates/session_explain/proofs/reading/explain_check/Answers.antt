@@ -1,15 +1,17 @@
 -- `session_explain::reading::explain_check` meets its contract: the search through the fields gives the reason.
-use mathlib.Core.Path.{sym, ap, ◌∙◌}
+use Rattle.std.proofs.Common.{sym, ap, ◌∙◌}
+use Rattle.std.proofs.lemmas.Result.{err_from_is_err_and}
 use Rattle.spec_explain.specs.CallReasons.{explain_check}
 use Rattle.session_explain.specs.Reasons.{located_to}
 use Rattle.session_explain.specs.StepsLaws.{located_is}
-use borrow.Author.Rules.{rules}
 use Rattle.session_explain.proofs.reading.explain_check.Goals as goal
 
-pub returns-in-Read : goal.returns-in-Read
+pub returns-in_err : goal.returns-in_err
 unfolding explain_check
-returns-in-Read c = sym (ap located_to c.in-Read.is) ∙ ap located_to c.locate_set.ensures ∙ located_is _ _
+returns-in_err c =
+    let p = err_from_is_err_and c.from_residual.result c.from_residual.ensures.1 in
+    rw (p.1, p.2) (sym (ap located_to c.in_err.was) ∙ ap located_to c.locate_set.ensures ∙ located_is _ _)
 
-pub returns-in-Unread : goal.returns-in-Unread
+pub returns : goal.returns
 unfolding explain_check
-returns-in-Unread c = sym (ap located_to c.in-Unread.is) ∙ ap located_to c.locate_set.ensures ∙ located_is _ _
+returns c = sym (ap located_to c.in_ok.was) ∙ ap located_to c.locate_set.ensures ∙ located_is _ _

@@ -16,17 +16,17 @@ second x y z w h = and_left y (z && w) (and_right x (y && (z && w)) h)
 third : (x y z w : Bool) → (x && (y && (z && w))) ≡ true → z ≡ true
 third x y z w h = and_left z w (and_right y (z && w) (and_right x (y && (z && w)) h))
 
-pub apply_shaped-result-requires : goal.apply_shaped-result-requires
-apply_shaped-result-requires c =
-    let shaped = sym c.memory_shaped.ensures ∙ c.if-memory_shaped.true in
+pub apply_shaped-requires : goal.apply_shaped-requires
+apply_shaped-requires c =
+    let shaped = sym c.memory_shaped.ensures ∙ c.if-not-memory_shaped.false in
     (half_head c.args.head.now _ _ _ (second (anchors_shaped (length c.args.nodes.now) (length c.args.pairs.now) (length c.args.collections.now)) (half_shaped c.args.head.now (length c.args.bindings.now) (length c.args.availability.now) (length c.args.entries.now)) (half_shaped c.args.to_head.now (length c.args.to_bindings.now) (length c.args.to_availability.now) (length c.args.to_entries.now)) (eqb (length c.args.to_lengths.now) length_bytes) shaped), half_head c.args.to_head.now _ _ _ (third (anchors_shaped (length c.args.nodes.now) (length c.args.pairs.now) (length c.args.collections.now)) (half_shaped c.args.head.now (length c.args.bindings.now) (length c.args.availability.now) (length c.args.entries.now)) (half_shaped c.args.to_head.now (length c.args.to_bindings.now) (length c.args.to_availability.now) (length c.args.to_entries.now)) (eqb (length c.args.to_lengths.now) length_bytes) shaped))
-
-pub returns-then-memory_shaped : goal.returns-then-memory_shaped
-returns-then-memory_shaped c =
-    let shaped = sym c.memory_shaped.ensures ∙ c.if-memory_shaped.true in
-    record { called = record { answered = λ yes. (c.apply_shaped-result.result, (refl, c.apply_shaped-result.ensures.called)); refused = λ no. absurd (false≢true (sym no ∙ shaped)) }; cleared = c.apply_shaped-result.ensures.cleared }
 
 pub returns : goal.returns
 returns c =
-    let other = sym c.memory_shaped.ensures ∙ c.if-memory_shaped.false in
+    let shaped = sym c.memory_shaped.ensures ∙ c.if-not-memory_shaped.false in
+    record { called = record { answered = λ yes. (c.apply_shaped.result, (refl, c.apply_shaped.ensures.called)); refused = λ no. absurd (false≢true (sym no ∙ shaped)) }; cleared = c.apply_shaped.ensures.cleared }
+
+pub returns-then-not-memory_shaped : goal.returns-then-not-memory_shaped
+returns-then-not-memory_shaped c =
+    let other = sym c.memory_shaped.ensures ∙ c.if-not-memory_shaped.true in
     record { called = record { answered = λ yes. absurd (false≢true (sym other ∙ yes)); refused = λ no. (refl, (refl, (refl, (refl, (refl, refl))))) }; cleared = λ m l h clear. clear }

@@ -8,28 +8,28 @@ use borrow.Author.Rules.{rules}
 use Rattle.session_lent.proofs.creation.create_session.Goals as goal
 
 pub store_new-requires : goal.store_new-requires
-store_new-requires c = room_head _ _ _ _ _ _ (sym c.room_shaped.ensures ∙ c.if-room_shaped.true)
+store_new-requires c = room_head _ _ _ _ _ _ (sym c.room_shaped.ensures ∙ c.if-not-room_shaped.false)
 
-pub returns-then-anchors_shaped : goal.returns-then-anchors_shaped
-returns-then-anchors_shaped c =
-    let room = sym c.room_shaped.ensures ∙ c.if-room_shaped.true in
-    let fits = sym c.anchors_shaped.ensures ∙ c.if-anchors_shaped.true in
+pub returns : goal.returns
+returns c =
+    let room = sym c.room_shaped.ensures ∙ c.if-not-room_shaped.false in
+    let fits = sym c.anchors_shaped.ensures ∙ c.if-not-anchors_shaped.false in
     record {
       told = sym (ap₂ creation_answer room fits);
       head_left = c.store_new.ensures;
       bindings_left = c.clear.ensures;
-      availability_left = c.clear-then-anchors_shaped.ensures;
-      entries_left = c.clear-then-anchors_shaped-2.ensures;
-      lengths_left = c.clear-then-anchors_shaped-3.ensures;
+      availability_left = c.clear-2.ensures;
+      entries_left = c.clear-3.ensures;
+      lengths_left = c.clear-4.ensures;
     }
 
-pub returns-then-room_shaped : goal.returns-then-room_shaped
-returns-then-room_shaped c =
-    let room = sym c.room_shaped.ensures ∙ c.if-room_shaped.true in
-    let over = sym c.anchors_shaped.ensures ∙ c.if-anchors_shaped.false in
+pub returns-then-not-anchors_shaped : goal.returns-then-not-anchors_shaped
+returns-then-not-anchors_shaped c =
+    let room = sym c.room_shaped.ensures ∙ c.if-not-room_shaped.false in
+    let over = sym c.anchors_shaped.ensures ∙ c.if-not-anchors_shaped.true in
     record { told = sym (ap₂ creation_answer room over); head_left = refl; bindings_left = refl; availability_left = refl; entries_left = refl; lengths_left = refl }
 
-pub returns : goal.returns
-returns c =
-    let none = sym c.room_shaped.ensures ∙ c.if-room_shaped.false in
+pub returns-then-not-room_shaped : goal.returns-then-not-room_shaped
+returns-then-not-room_shaped c =
+    let none = sym c.room_shaped.ensures ∙ c.if-not-room_shaped.true in
     record { told = sym (ap (λ k. creation_answer k (anchors_shaped (length c.args.nodes.now) (length c.args.pairs.now) (length c.args.collections.now))) none); head_left = refl; bindings_left = refl; availability_left = refl; entries_left = refl; lengths_left = refl }

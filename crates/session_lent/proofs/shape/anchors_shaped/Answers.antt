@@ -1,24 +1,13 @@
--- `anchors_shaped` meets its contract: one length after the other.
-use Prim.Native.Nat.{◌*◌, ◌%◌}
-use mathlib.Core.Path.{refl}
-use borrow.Author.Tests.{le-leb, lt-leb, eq-eqb, ne_eqb}
-use Rattle.spec_patch.specs.Sizes.{anchors}
+-- `anchors_shaped` meets its contract: one test after the other.
+use Rattle.std.proofs.Common.{arith}
+use Rattle.std.proofs.lemmas.Grind.{common_steps}
 use Rattle.session_lent.specs.LentSession.{anchors_shaped}
-use borrow.Author.Rules.{rules}
 use Rattle.session_lent.proofs.shape.anchors_shaped.Goals as goal
 
-pub returns-then-nodes-gt-ANCHORS : goal.returns-then-nodes-gt-ANCHORS
+pub returns-then-pairs-eq0 : goal.returns-then-pairs-eq0
 unfolding anchors_shaped
-returns-then-nodes-gt-ANCHORS c = rw (lt-leb _ anchors c.if-nodes-gt-ANCHORS.true) refl
+returns-then-pairs-eq0 c = grind (arith, common_steps)
 
-pub returns-then-pairs : goal.returns-then-pairs
+pub returns-else-pairs-eq0 : goal.returns-else-pairs-eq0
 unfolding anchors_shaped
-returns-then-pairs c = rw (le-leb c.args.nodes anchors c.if-nodes-gt-ANCHORS.false, lt-leb c.args.pairs (2 * anchors) c.if-pairs.true) refl
-
-pub returns-then-pairs-ne0 : goal.returns-then-pairs-ne0
-unfolding anchors_shaped
-returns-then-pairs-ne0 c = rw (le-leb c.args.nodes anchors c.if-nodes-gt-ANCHORS.false, le-leb c.args.pairs (2 * anchors) c.if-pairs.false, ne_eqb (c.args.pairs % 2) 0 c.if-pairs-ne0.true) refl
-
-pub returns : goal.returns
-unfolding anchors_shaped
-returns c = rw (le-leb c.args.nodes anchors c.if-nodes-gt-ANCHORS.false, le-leb c.args.pairs (2 * anchors) c.if-pairs.false, eq-eqb (c.args.pairs % 2) 0 c.if-pairs-ne0.false) refl
+returns-else-pairs-eq0 c = grind (arith, common_steps)
