@@ -3,11 +3,11 @@ use Rattle.std.proofs.lemmas.Result.{err_from_is_err_and}
 use Rattle.session_explain.specs.StepsLaws.{checks_because, checks_fine}
 use Rattle.session_explain.proofs.checks.explain_checks.Goals as goal
 
-pub returns-in_err : goal.returns-in_err
-returns-in_err c =
+pub returns-in_err-explain_preflight : goal.returns-in_err-explain_preflight
+returns-in_err-explain_preflight c =
     λ k lent.
     let p = err_from_is_err_and c.from_residual.result c.from_residual.ensures.1 in
-    rw (p.1, p.2) (checks_because _ _ _ _ _ k _ _ _ c.explain_preflight.ensures c.in_err.was)
+    rw (p.1, p.2) (checks_because _ _ _ _ _ k _ _ _ c.explain_preflight.ensures c.in_err-explain_preflight.was)
 
 pub returns : goal.returns
-returns c = λ k lent. checks_fine _ _ _ _ _ k _ _ _ c.explain_preflight.ensures c.in_ok.was (c.explain_set.ensures k lent)
+returns c = λ k lent. checks_fine _ _ _ _ _ k _ _ _ c.explain_preflight.ensures c.in_ok-explain_preflight.was (c.explain_set.ensures k lent)
