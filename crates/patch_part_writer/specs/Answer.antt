@@ -2,6 +2,8 @@
 use Rattle.std.specs.Prelude.{ℕ, ◌+◌, List, ◌++◌, leb, length, drop, Result, Ok, Err, if◌then◌else◌}
 use Rattle.spec_patch.specs.Write as model
 use Rattle.bytes_wire.specs.Write.{has_room, overwrite}
+use Rattle.projection_patch.specs.declared.text_rule.TextFault.{TextFault}
+use Rattle.projection_patch.specs.declared.text_rule.TextFault.TheVariants as text
 use Rattle.patch_part_writer.specs.declared.written.WriteRefusal.{WriteRefusal}
 use Rattle.patch_part_writer.specs.declared.written.WriteRefusal.TheVariants.{OverCapacity, Malformed, OutputTooShort}
 
@@ -14,6 +16,11 @@ abbrev pub refusal_to : model.WriteRefusal → WriteRefusal
 refusal_to model.over_capacity = OverCapacity
 refusal_to model.malformed = Malformed
 refusal_to model.output_too_short = OutputTooShort
+
+-- why a list with such a text is not written
+abbrev pub text_refusal : TextFault → WriteRefusal
+text_refusal text.Malformed = Malformed
+text_refusal text.ManyCharacters = OverCapacity
 
 -- the position behind the bytes where there is room for them, else 14
 abbrev pub written_at : List ℕ → ℕ → model.Written → Result ℕ WriteRefusal

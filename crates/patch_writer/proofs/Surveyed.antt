@@ -1,5 +1,4 @@
 -- The two passes of a survey: what is known after the first p heads, and after the first i operations.
-use Rattle.std.specs.Prelude as code
 use Prim.Native.Nat.{ℕ, ◌+◌, ◌*◌, ◌≤◌, ◌<◌}
 use mathlib.Core.Path.{◌≡◌, refl, sym, ap, ◌∙◌}
 use mathlib.Core.Bool.{Bool, true, false, ◌&&◌}
@@ -15,12 +14,12 @@ use Rattle.projection_patch.specs.declared.patch.OperationPlace.{OperationPlace}
 use Rattle.projection_patch.specs.declared.text_rule.TextFault.{TextFault}
 use Rattle.projection_patch.specs.declared.text_rule.TextFault.TheVariants.{Malformed, ManyCharacters}
 use Rattle.projection_patch.specs.TextRule.{judged}
-use Rattle.patch_writer.specs.declared.survey.HeadSurvey.TheVariants as ofHeads
-use Rattle.patch_writer.specs.declared.survey.OperationSurvey.TheVariants as of_operations
+use Rattle.std.specs.Prelude.{Result, Ok, Err}
+use Rattle.patch_part_writer.specs.declared.written.WriteRefusal.TheVariants as refusal
 use Rattle.patch_part_writer.specs.Extent.{head_size, operation_size, operation_text}
 use Rattle.patch_part_writer.specs.ExtentLaws.{surface_small, operation_small}
 use Rattle.patch_writer.specs.Set.{operation_total, head_sizes, operation_sizes, few_operations, short_at, allowed_at, few_at}
-use Rattle.patch_writer.specs.Survey.{head_survey, judged_operation, judged_values, worse, operation_survey}
+use Rattle.patch_writer.specs.Survey.{counts, head_survey, judged_operation, judged_values, worse, measured, operation_survey}
 
 and_false : (a b : Bool) → a ≡ false → (a && b) ≡ false
 and_false true b e = absurd (let z : ◌≡◌ {A = ℕ} 0 1 = cc in omega arith)
@@ -57,14 +56,14 @@ module _ {hs : List ProjectionPatch} {operations bytes p : ℕ} (seen : HeadsSee
       small = omega (arith, seen.small, head_small h);
     }
 
-    pub heads_over : patch_operations < h.operation_count → head_survey hs ≡ ofHeads.OverCapacity
+    pub heads_over : patch_operations < h.operation_count → head_survey hs ≡ Err refusal.OverCapacity
     unfolding head_survey
     heads_over over =
         let no : all few_operations hs ≡ false =
         sym seen.tested ∙ ap (all few_operations) rest ∙ and_false (few_operations h) (all few_operations (drop (p + 1) hs)) (lt-leb h.operation_count patch_operations over) in
         rw no
 
-  pub heads_end : drop p hs ≡ [] → head_survey hs ≡ ofHeads.Within operations bytes
+  pub heads_end : drop p hs ≡ [] → head_survey hs ≡ counts operations bytes
   unfolding head_survey operation_total head_sizes
   heads_end none =
       let total : operation_total hs ≡ operations = omega (arith, seen.counted, ap operation_total none) in
@@ -75,19 +74,18 @@ module _ {hs : List ProjectionPatch} {operations bytes p : ℕ} (seen : HeadsSee
 -- ---- operations
 
 -- judgements come together in any order of brackets
-worse_assoc : (a b c : code.Result (Unit {0}) TextFault) → worse (worse a b) c ≡ worse a (worse b c)
-worse_assoc (code.Ok tt) b c = refl
-worse_assoc (code.Err Malformed) b c = refl
-worse_assoc (code.Err ManyCharacters) (code.Ok tt) c = refl
-worse_assoc (code.Err ManyCharacters) (code.Err Malformed) c = refl
-worse_assoc (code.Err ManyCharacters) (code.Err ManyCharacters) (code.Ok tt) = refl
-worse_assoc (code.Err ManyCharacters) (code.Err ManyCharacters) (code.Err Malformed) = refl
-worse_assoc (code.Err ManyCharacters) (code.Err ManyCharacters) (code.Err ManyCharacters) = refl
+worse_assoc : (a b c : Result (Unit {0}) TextFault) → worse (worse a b) c ≡ worse a (worse b c)
+worse_assoc (Ok tt) b c = refl
+worse_assoc (Err Malformed) b c = refl
+worse_assoc (Err ManyCharacters) (Ok tt) c = refl
+worse_assoc (Err ManyCharacters) (Err Malformed) c = refl
+worse_assoc (Err ManyCharacters) (Err ManyCharacters) (Ok tt) = refl
+worse_assoc (Err ManyCharacters) (Err ManyCharacters) (Err f) = refl
 
-worse_fits : (a : code.Result (Unit {0}) TextFault) → worse a (code.Ok tt) ≡ a
-worse_fits (code.Ok tt) = refl
-worse_fits (code.Err Malformed) = refl
-worse_fits (code.Err ManyCharacters) = refl
+worse_fits : (a : Result (Unit {0}) TextFault) → worse a (Ok tt) ≡ a
+worse_fits (Ok tt) = refl
+worse_fits (Err Malformed) = refl
+worse_fits (Err ManyCharacters) = refl
 
 -- the tests of two, one by one and together
 worse_judged : (a b c d : Bool) → worse (judged a b) (judged c d) ≡ judged (a && c) (b && d)
@@ -102,16 +100,16 @@ judged_first : (ed : Edition) (texts : List ℕ) (x : OperationPlace) (ps : List
 unfolding judged_operation
 judged_first ed texts x ps = worse_judged (allowed_at ed texts x) (few_at texts x) (all (allowed_at ed texts) ps) (all (few_at texts) ps)
 
-pub record OperationsSeen (ed : Edition) (texts : List ℕ) (ps : List OperationPlace) (bytes : ℕ) (judgement : code.Result (Unit {0}) TextFault) (i : ℕ) : Type 0 where
+pub record OperationsSeen (ed : Edition) (texts : List ℕ) (ps : List OperationPlace) (bytes : ℕ) (judgement : Result (Unit {0}) TextFault) (i : ℕ) : Type 0 where
   pub sized : bytes + operation_sizes (drop i ps) ≡ operation_sizes ps
   pub tested : all short_at (drop i ps) ≡ all short_at ps
   pub together : worse judgement (judged_values ed texts (drop i ps)) ≡ judged_values ed texts ps
   pub small : bytes ≤ (31 + text_bytes) * i
 
-pub operations_start : (ed : Edition) (texts : List ℕ) (ps : List OperationPlace) → OperationsSeen ed texts ps 0 (code.Ok tt) 0
+pub operations_start : (ed : Edition) (texts : List ℕ) (ps : List OperationPlace) → OperationsSeen ed texts ps 0 (Ok tt) 0
 operations_start ed texts ps = record { sized = omega arith; tested = refl; together = refl; small = omega arith }
 
-module _ {ed : Edition} {texts : List ℕ} {ps : List OperationPlace} {bytes : ℕ} {judgement : code.Result (Unit {0}) TextFault} {i : ℕ} (seen : OperationsSeen ed texts ps bytes judgement i) where
+module _ {ed : Edition} {texts : List ℕ} {ps : List OperationPlace} {bytes : ℕ} {judgement : Result (Unit {0}) TextFault} {i : ℕ} (seen : OperationsSeen ed texts ps bytes judgement i) where
   module _ (x : OperationPlace) (rest : drop i ps ≡ x ∷ drop (i + 1) ps) where
     pub operations_next : (operation_text x.operation).len ≤ text_bytes → OperationsSeen ed texts ps (bytes + operation_size x.operation) (worse judgement (judged_operation ed texts x.operation)) (i + 1)
     unfolding operation_sizes
@@ -126,14 +124,14 @@ module _ {ed : Edition} {texts : List ℕ} {ps : List OperationPlace} {bytes : �
       small = omega (arith, seen.small, operation_small x.operation short);
     }
 
-    pub operations_over : text_bytes < (operation_text x.operation).len → operation_survey ed texts ps ≡ of_operations.OverCapacity
+    pub operations_over : text_bytes < (operation_text x.operation).len → operation_survey ed texts ps ≡ Err refusal.OverCapacity
     unfolding operation_survey
     operations_over over =
         let no : all short_at ps ≡ false =
         sym seen.tested ∙ ap (all short_at) rest ∙ and_false (short_at x) (all short_at (drop (i + 1) ps)) (lt-leb (operation_text x.operation).len text_bytes over) in
         rw no
 
-  pub operations_end : drop i ps ≡ [] → operation_survey ed texts ps ≡ of_operations.Within bytes judgement
+  pub operations_end : drop i ps ≡ [] → operation_survey ed texts ps ≡ measured bytes judgement
   unfolding operation_survey operation_sizes
   operations_end none =
       let size : operation_sizes ps ≡ bytes = omega (arith, seen.sized, ap operation_sizes none) in

@@ -1,5 +1,4 @@
 -- What the passes of a survey say together, and what follows for the writing.
-use Rattle.std.specs.Prelude as code
 use Prim.Native.Nat.{ℕ, ◌+◌, ◌*◌, ◌≤◌, ◌<◌}
 use mathlib.Core.Path.{◌≡◌, refl, sym, ap, ◌∙◌}
 use mathlib.Core.Bool.{Bool, true, false, ◌&&◌}
@@ -9,7 +8,7 @@ use borrow.Author.Tests.{leb-true, le-leb, lt-leb}
 use lib.Dec.{leb}
 use lib.ListN.{length, take}
 use lib.Seq.{length-take-le}
-use Rattle.std.specs.Prelude.{if◌then◌else◌}
+use Rattle.std.specs.Prelude.{Result, Ok, Err, if◌then◌else◌}
 use Rattle.spec_lists.specs.Lists.{all}
 use Rattle.spec_lists.proofs.ListLaws.{and_left, and_right}
 use Rattle.spec_patch.specs.Sizes.{set_bytes, set_patches, text_bytes}
@@ -23,59 +22,65 @@ use Rattle.projection_patch.specs.declared.text_rule.TextFault.{TextFault}
 use Rattle.projection_patch.specs.TextRule.{judged}
 use Rattle.patch_part_writer.specs.declared.written.WriteRefusal.{WriteRefusal}
 use Rattle.patch_part_writer.specs.declared.written.WriteRefusal.TheVariants as refusal
-use Rattle.patch_writer.specs.declared.survey.HeadSurvey.TheVariants as ofHeads
-use Rattle.patch_writer.specs.declared.survey.OperationSurvey.TheVariants as of_operations
-use Rattle.patch_writer.specs.declared.survey.Survey.TheVariants as of_set
 use Rattle.patch_part_writer.specs.Answer.{write_refusal_of}
 use Rattle.patch_part_writer.specs.Extent.{operation_text}
 use Rattle.patch_part_writer.specs.ExtentLaws.{operation_small}
 use Rattle.patch_writer.specs.Set.{set_places, heads, list_of, used, operation_total, head_sizes, operation_sizes, set_size, few_operations, short_at, inside_at, allowed_at, few_at, counts_fit, capacities_kept, patch_set_bytes}
 use Rattle.patch_writer.proofs.CallLaws.{Arrays, allowed_inside}
-use Rattle.patch_writer.specs.Survey.{head_survey, judged_values, operation_survey, by_values, surveyed, set_survey}
+use Rattle.patch_writer.specs.Survey.{counts, head_survey, judged_values, measured, operation_survey, by_values, surveyed, set_survey}
 use Rattle.patch_writer.proofs.Surveyed.{head_small}
 
 -- ---- what an answer says
 
-pub heads_refused : (hs : List ProjectionPatch) → head_survey hs ≡ ofHeads.OverCapacity → all few_operations hs ≡ false
+both_same : {A B : Type 0} {p q : A × B} → ◌≡◌ {A = Result (A × B) WriteRefusal} (Ok p) (Ok q) → p ≡ q
+both_same e = cc
+
+first_same : {A B : Type 0} {a c : A} {b d : B} → ◌≡◌ {A = Result (A × B) WriteRefusal} (Ok (a , b)) (Ok (c , d)) → c ≡ a
+first_same {A} {B} e = sym (ap (λ (p : A × B). p.0) (both_same e))
+
+second_same : {A B : Type 0} {a c : A} {b d : B} → ◌≡◌ {A = Result (A × B) WriteRefusal} (Ok (a , b)) (Ok (c , d)) → d ≡ b
+second_same {A} {B} e = sym (ap (λ (p : A × B). p.1) (both_same e))
+
+pub heads_refused : (hs : List ProjectionPatch) (r : WriteRefusal) → head_survey hs ≡ Err r → (r ≡ refusal.OverCapacity) × (all few_operations hs ≡ false)
 unfolding head_survey
-heads_refused hs e = go (all few_operations hs) e
+heads_refused hs r e = go (all few_operations hs) e
   where
-    go : (t : Bool) → (if t then ofHeads.Within (operation_total hs) (head_sizes hs) else ofHeads.OverCapacity) ≡ ofHeads.OverCapacity → t ≡ false
+    go : (t : Bool) → (if t then counts (operation_total hs) (head_sizes hs) else Err refusal.OverCapacity) ≡ Err r → (r ≡ refusal.OverCapacity) × (t ≡ false)
     go true e = absurd (let z : ◌≡◌ {A = ℕ} 0 1 = cc in omega arith)
-    go false e = refl
+    go false e = (cc, refl)
 
 pub record HeadsWithin (hs : List ProjectionPatch) (operations bytes : ℕ) : Type 0 where
   pub few : all few_operations hs ≡ true
   pub counted : operations ≡ operation_total hs
   pub sized : bytes ≡ head_sizes hs
 
-pub heads_within : (hs : List ProjectionPatch) (operations bytes : ℕ) → head_survey hs ≡ ofHeads.Within operations bytes → HeadsWithin hs operations bytes
+pub heads_within : (hs : List ProjectionPatch) (operations bytes : ℕ) → head_survey hs ≡ counts operations bytes → HeadsWithin hs operations bytes
 unfolding head_survey
 heads_within hs operations bytes e = go (all few_operations hs) refl e
   where
-    go : (t : Bool) → all few_operations hs ≡ t → (if t then ofHeads.Within (operation_total hs) (head_sizes hs) else ofHeads.OverCapacity) ≡ ofHeads.Within operations bytes → HeadsWithin hs operations bytes
-    go true is e = record { few = is; counted = cc; sized = cc }
+    go : (t : Bool) → all few_operations hs ≡ t → (if t then counts (operation_total hs) (head_sizes hs) else Err refusal.OverCapacity) ≡ counts operations bytes → HeadsWithin hs operations bytes
+    go true is e = record { few = is; counted = first_same e; sized = second_same e }
     go false is e = absurd (let z : ◌≡◌ {A = ℕ} 0 1 = cc in omega arith)
 
-pub operations_refused : (ed : Edition) (texts : List ℕ) (ps : List OperationPlace) → operation_survey ed texts ps ≡ of_operations.OverCapacity → all short_at ps ≡ false
+pub operations_refused : (ed : Edition) (texts : List ℕ) (ps : List OperationPlace) (r : WriteRefusal) → operation_survey ed texts ps ≡ Err r → (r ≡ refusal.OverCapacity) × (all short_at ps ≡ false)
 unfolding operation_survey
-operations_refused ed texts ps e = go (all short_at ps) e
+operations_refused ed texts ps r e = go (all short_at ps) e
   where
-    go : (t : Bool) → (if t then of_operations.Within (operation_sizes ps) (judged_values ed texts ps) else of_operations.OverCapacity) ≡ of_operations.OverCapacity → t ≡ false
+    go : (t : Bool) → (if t then measured (operation_sizes ps) (judged_values ed texts ps) else Err refusal.OverCapacity) ≡ Err r → (r ≡ refusal.OverCapacity) × (t ≡ false)
     go true e = absurd (let z : ◌≡◌ {A = ℕ} 0 1 = cc in omega arith)
-    go false e = refl
+    go false e = (cc, refl)
 
-pub record OperationsWithin (ed : Edition) (texts : List ℕ) (ps : List OperationPlace) (bytes : ℕ) (judgement : code.Result (Unit {0}) TextFault) : Type 0 where
+pub record OperationsWithin (ed : Edition) (texts : List ℕ) (ps : List OperationPlace) (bytes : ℕ) (judgement : Result (Unit {0}) TextFault) : Type 0 where
   pub short : all short_at ps ≡ true
   pub sized : bytes ≡ operation_sizes ps
   pub verdict : judgement ≡ judged_values ed texts ps
 
-pub operations_within : (ed : Edition) (texts : List ℕ) (ps : List OperationPlace) (bytes : ℕ) (judgement : code.Result (Unit {0}) TextFault) → operation_survey ed texts ps ≡ of_operations.Within bytes judgement → OperationsWithin ed texts ps bytes judgement
+pub operations_within : (ed : Edition) (texts : List ℕ) (ps : List OperationPlace) (bytes : ℕ) (judgement : Result (Unit {0}) TextFault) → operation_survey ed texts ps ≡ measured bytes judgement → OperationsWithin ed texts ps bytes judgement
 unfolding operation_survey
 operations_within ed texts ps bytes judgement e = go (all short_at ps) refl e
   where
-    go : (t : Bool) → all short_at ps ≡ t → (if t then of_operations.Within (operation_sizes ps) (judged_values ed texts ps) else of_operations.OverCapacity) ≡ of_operations.Within bytes judgement → OperationsWithin ed texts ps bytes judgement
-    go true is e = record { short = is; sized = cc; verdict = cc }
+    go : (t : Bool) → all short_at ps ≡ t → (if t then measured (operation_sizes ps) (judged_values ed texts ps) else Err refusal.OverCapacity) ≡ measured bytes judgement → OperationsWithin ed texts ps bytes judgement
+    go true is e = record { short = is; sized = first_same e; verdict = second_same e }
     go false is e = absurd (let z : ◌≡◌ {A = ℕ} 0 1 = cc in omega arith)
 
 -- ---- sums stay small
@@ -103,35 +108,35 @@ and_no false b e = refl
 
 module _ (ed : Edition) (texts : List ℕ) (set : ProjectionPatchSet) where
   -- any capacity that is passed
-  over : capacities_kept set ≡ false → set_survey ed texts set ≡ of_set.Refused refusal.OverCapacity
+  over : capacities_kept set ≡ false → set_survey ed texts set ≡ Err refusal.OverCapacity
   unfolding set_survey
   over e = rw e
 
-  no_counts : counts_fit set ≡ false → set_survey ed texts set ≡ of_set.Refused refusal.OverCapacity
+  no_counts : counts_fit set ≡ false → set_survey ed texts set ≡ Err refusal.OverCapacity
   unfolding capacities_kept
   no_counts e = over (ap (λ (t : Bool). t && (all short_at (used set) && leb (set_size set) set_bytes)) e)
 
-  pub many_patches : set_patches < set.patch_count → set_survey ed texts set ≡ of_set.Refused refusal.OverCapacity
+  pub many_patches : set_patches < set.patch_count → set_survey ed texts set ≡ Err refusal.OverCapacity
   unfolding counts_fit
   many_patches h = no_counts (rw (lt-leb set.patch_count set_patches h))
 
-  pub many_operations : all few_operations (heads set) ≡ false → set_survey ed texts set ≡ of_set.Refused refusal.OverCapacity
+  pub many_operations : all few_operations (heads set) ≡ false → set_survey ed texts set ≡ Err refusal.OverCapacity
   unfolding counts_fit
   many_operations e = no_counts (and_no (leb set.patch_count set_patches) _ (ap (λ (t : Bool). t && leb (operation_total (heads set)) set_places) e))
 
-  pub many_places : (operations : ℕ) → operations ≡ operation_total (heads set) → set_places < operations → set_survey ed texts set ≡ of_set.Refused refusal.OverCapacity
+  pub many_places : (operations : ℕ) → operations ≡ operation_total (heads set) → set_places < operations → set_survey ed texts set ≡ Err refusal.OverCapacity
   unfolding counts_fit
   many_places operations e h =
       no_counts (and_no (leb set.patch_count set_patches) _ (and_no (all few_operations (heads set)) _ (lt-leb (operation_total (heads set)) set_places (omega (arith, e)))))
 
-  pub long_text : (operations : ℕ) → operations ≡ operation_total (heads set) → all short_at (take operations set.operations) ≡ false → set_survey ed texts set ≡ of_set.Refused refusal.OverCapacity
+  pub long_text : (operations : ℕ) → operations ≡ operation_total (heads set) → all short_at (take operations set.operations) ≡ false → set_survey ed texts set ≡ Err refusal.OverCapacity
   unfolding capacities_kept
   long_text operations e none =
       let no : all short_at (used set) ≡ false = ap (λ (n : ℕ). all short_at (take n set.operations)) (sym e) ∙ none in
       over (and_no (counts_fit set) _ (ap (λ (t : Bool). t && leb (set_size set) set_bytes) no))
 
   -- the counts fit and the texts are short
-  module _ (operations bytes rest : ℕ) (judgement : code.Result (Unit {0}) TextFault) (few : set.patch_count ≤ set_patches) (enough : operations ≤ set_places) (hw : HeadsWithin (heads set) operations bytes) (ow : OperationsWithin ed texts (take operations set.operations) rest judgement) where
+  module _ (operations bytes rest : ℕ) (judgement : Result (Unit {0}) TextFault) (few : set.patch_count ≤ set_patches) (enough : operations ≤ set_places) (hw : HeadsWithin (heads set) operations bytes) (ow : OperationsWithin ed texts (take operations set.operations) rest judgement) where
     -- the bytes and the texts decide
     pub both_passed : surveyed operations (35 + (bytes + rest)) judgement ≡ set_survey ed texts set
     unfolding surveyed set_survey capacities_kept counts_fit set_size
@@ -161,14 +166,14 @@ module _ (ed : Edition) (texts : List ℕ) (set : ProjectionPatchSet) where
 
   -- ---- what the survey says of the writing
 
-  pub survey_refused : (r : WriteRefusal) → set_survey ed texts set ≡ of_set.Refused r → patch_set_bytes ed texts set ≡ model.refused (write_refusal_of r)
+  pub survey_refused : (r : WriteRefusal) → set_survey ed texts set ≡ Err r → patch_set_bytes ed texts set ≡ model.refused (write_refusal_of r)
   unfolding set_survey patch_set_bytes
   survey_refused r e = go (capacities_kept set) (all (allowed_at ed texts) (used set)) (all (few_at texts) (used set)) e
     where
-      told : (w : WriteRefusal) → of_set.Refused w ≡ of_set.Refused r → model.refused (write_refusal_of w) ≡ model.refused (write_refusal_of r)
+      told : (w : WriteRefusal) → ◌≡◌ {A = Result (ℕ × ℕ) WriteRefusal} (Err w) (Err r) → model.refused (write_refusal_of w) ≡ model.refused (write_refusal_of r)
       told w e = let is : w ≡ r = cc in ap (λ (x : WriteRefusal). model.refused (write_refusal_of x)) is
 
-      go : (k a f : Bool) → (if k then by_values (operation_total (heads set)) (set_size set) (judged a f) else of_set.Refused refusal.OverCapacity) ≡ of_set.Refused r
+      go : (k a f : Bool) → (if k then by_values (operation_total (heads set)) (set_size set) (judged a f) else Err refusal.OverCapacity) ≡ Err r
           → (if k then (if a then (if f then model.wrote (encode ed (list_of texts set)) else model.refused model.over_capacity) else model.refused model.malformed) else model.refused model.over_capacity) ≡ model.refused (write_refusal_of r)
       go true true true e = absurd (let z : ◌≡◌ {A = ℕ} 0 1 = cc in omega arith)
       go true true false e = told refusal.OverCapacity e
@@ -183,19 +188,19 @@ module _ (ed : Edition) (texts : List ℕ) (set : ProjectionPatchSet) where
     pub sized : bytes ≡ set_size set
     pub result : patch_set_bytes ed texts set ≡ model.wrote (encode ed (list_of texts set))
 
-  pub survey_within : (operations bytes : ℕ) → set_survey ed texts set ≡ of_set.Within operations bytes → SurveyWithin operations bytes
+  pub survey_within : (operations bytes : ℕ) → set_survey ed texts set ≡ counts operations bytes → SurveyWithin operations bytes
   unfolding set_survey patch_set_bytes capacities_kept
   survey_within operations bytes e = go (capacities_kept set) refl (all (allowed_at ed texts) (used set)) refl (all (few_at texts) (used set)) refl e
     where
       go : (k : Bool) → capacities_kept set ≡ k → (a : Bool) → all (allowed_at ed texts) (used set) ≡ a → (f : Bool) → all (few_at texts) (used set) ≡ f
-          → (if k then by_values (operation_total (heads set)) (set_size set) (judged a f) else of_set.Refused refusal.OverCapacity) ≡ of_set.Within operations bytes
+          → (if k then by_values (operation_total (heads set)) (set_size set) (judged a f) else Err refusal.OverCapacity) ≡ counts operations bytes
           → SurveyWithin operations bytes
       go true kept true allowed true few e = record {
         fit = and_left (counts_fit set) _ kept;
         short = and_left (all short_at (used set)) _ (and_right (counts_fit set) _ kept);
         inside = allowed_inside ed texts (used set) allowed;
-        counted = cc;
-        sized = cc;
+        counted = first_same e;
+        sized = second_same e;
         result = rw (kept, allowed, few);
       }
       go true kept true allowed false few e = absurd (let z : ◌≡◌ {A = ℕ} 0 1 = cc in omega arith)

@@ -27,8 +27,9 @@ use Rattle.projection_patch.specs.contracts.patch.ProjectionPatch as patchType
 use Rattle.projection_patch.specs.contracts.patch.OperationPlace as placeType
 use Rattle.projection_patch.specs.contracts.patch.ProjectionPatchSet as setType
 use Rattle.patch_writer.specs.Set.{operation_at, list_from, heads, list_of}
-use Rattle.projection_patch.specs.contracts.patch.OptionalSurfaceId as surfaceType
-use Rattle.projection_patch.specs.contracts.patch.OptionalKey as keyType
+use Rattle.std.specs.contracts.option.Option as optionType
+use Rattle.projection_patch.specs.contracts.contract_primitives.StaticSurfaceId as surfaceType
+use Rattle.projection_patch.specs.contracts.contract_primitives.CollectionKey as keyType
 use Rattle.projection_patch.specs.contracts.patch.ProjectionPatchEnvelope as envelopeType
 use Rattle.projection_patch.specs.contracts.patch.ProjectionPatchValue as valueType
 use Rattle.projection_patch.specs.contracts.patch.ProjectionPatchOperation as operationType
@@ -36,12 +37,12 @@ use Rattle.projection_patch.specs.contracts.patch.ProjectionPatchOperation as op
 -- The relation `Is` computes to nested pairs. A number has its machine value and its bound. A struct has its machine values, their form, and
 -- behind both the relations of its fields in order; an enum has the same twice, for its tag and for the fields of its variant. So in a path
 -- `.1 .1` goes to a struct's fields, `.1 .1 .1 .1` to a variant's, and a last `.1` to a bound.
-surface_in_range : (s : code.Option StaticSurfaceId) (vs : List Val) → Is (enums.row surfaceType.the_type) s vs → OptionalU64 (surface_of s)
+surface_in_range : (s : code.Option StaticSurfaceId) (vs : List Val) → Is (optionType.the_row (structs.row surfaceType.the_type)) s vs → OptionalU64 (surface_of s)
 unfolding OptionalU64
 surface_in_range code.None vs h = tt
 surface_in_range (code.Some id) vs h = h.1.1.1.1.0.1.1.0.1
 
-key_in_range : (k : code.Option CollectionKey) (vs : List Val) → Is (enums.row keyType.the_type) k vs → OptionalU64 (before_of k)
+key_in_range : (k : code.Option CollectionKey) (vs : List Val) → Is (optionType.the_row (structs.row keyType.the_type)) k vs → OptionalU64 (before_of k)
 unfolding OptionalU64
 key_in_range code.None vs h = tt
 key_in_range (code.Some k) vs h = h.1.1.1.1.0.1.1.0.1

@@ -10,22 +10,18 @@ use projection_patch::patch::{
 use projection_patch::read_values;
 use projection_patch::text_rule::{TextFault, judge_text};
 
-// The judgement of two values.
+// The judgement of two values: a malformed one comes before one with too many characters, wherever they stand.
 pub fn worse_of(a: Result<(), TextFault>, b: Result<(), TextFault>) -> Result<(), TextFault>
     ensures { result ≡ worse a b }
 {
     match a {
-        Ok(()) => b,
-        Err(TextFault::Malformed) => Err(TextFault::Malformed),
-        Err(TextFault::ManyCharacters) => match b {
-            Ok(()) => Err(TextFault::ManyCharacters),
-            Err(TextFault::Malformed) => Err(TextFault::Malformed),
-            Err(TextFault::ManyCharacters) => Err(TextFault::ManyCharacters),
-        },
+        Err(TextFault::Malformed) => a,
+        _ => b.and(a),
     }
 }
 
 // The judgement of a text; one that is not within the texts is malformed.
+#[tactic(auto, unfolding(crate::specs::Survey::judged_text))]
 fn judge_place(text: TextPlace, texts: &[u8]) -> Result<(), TextFault>
     ensures { result ≡ judged_text texts.now text }
 {
@@ -38,6 +34,7 @@ fn judge_place(text: TextPlace, texts: &[u8]) -> Result<(), TextFault>
 }
 
 // A score in an edition without scores is malformed, and so is one that is too high.
+#[tactic(auto, unfolding(crate::specs::Survey::judged_score))]
 fn judge_score(score: u8, edition: ProjectionPatchEdition) -> Result<(), TextFault>
     ensures { result ≡ judged_score (edition_of edition) score }
 {
@@ -50,6 +47,7 @@ fn judge_score(score: u8, edition: ProjectionPatchEdition) -> Result<(), TextFau
     Ok(())
 }
 
+#[tactic(auto, using(std::proofs::lemmas::Grind::common_steps), unfolding(crate::specs::Survey::judged_value, crate::specs::Survey::judged_text, crate::specs::Survey::judged_score, spec_patch::specs::Write::well_formed, spec_patch::specs::Write::allowed_value, spec_patch::specs::Write::few_enough, spec_patch::specs::Encode::kind_of, spec_patch::specs::Edition::kinds, spec_patch::specs::Edition::has_kind))]
 fn judge_value(
     value: ProjectionPatchValue,
     texts: &[u8],
@@ -67,6 +65,7 @@ fn judge_value(
 }
 
 // The judgement of the operation's value; one without a value fits.
+#[tactic(auto, using(std::proofs::lemmas::Grind::common_steps), unfolding(crate::specs::Survey::judged_operation, crate::specs::Survey::judged_value, spec_patch::specs::Write::value_passes))]
 pub fn judge_operation(
     operation: ProjectionPatchOperation,
     texts: &[u8],

@@ -10,7 +10,7 @@ ghost use Rattle.patch_part_writer.specs.Answer.{written_at, output_at};
 ghost use Rattle.patch_writer.specs.Set.{list_of, patch_set_bytes};
 ghost use Rattle.patch_writer.specs.Survey.{ReadyToWrite};
 
-use crate::survey::{Survey, survey_set};
+use crate::survey::survey_set;
 use patch_part_writer::extent::{HEADING_BYTES, head_size, operation_size};
 use patch_part_writer::head::{store_head, store_heading};
 use patch_part_writer::operation::store_operation;
@@ -68,14 +68,10 @@ pub fn write_patch_set(
     ensures out_after { out.new ≡ output_at out.old 0 (patch_set_bytes (edition_of edition) texts.now set) }
     ensures by_index { (n : ℕ) → result ≡ Ok n → read_set (edition_of edition) (take n out.new) ≡ patches (list_of texts.now set) }
 {
-    match survey_set(set, texts, edition) {
-        Survey::Refused(refusal) => Err(refusal),
-        Survey::Within { operations, bytes } => {
-            if out.len() < bytes {
-                return Err(WriteRefusal::OutputTooShort);
-            }
-            store_heading(out, 0, set.patch_count, edition);
-            Ok(write_patches(set, operations, texts, out, HEADING_BYTES))
-        }
+    let (operations, bytes) = survey_set(set, texts, edition)?;
+    if out.len() < bytes {
+        return Err(WriteRefusal::OutputTooShort);
     }
+    store_heading(out, 0, set.patch_count, edition);
+    Ok(write_patches(set, operations, texts, out, HEADING_BYTES))
 }

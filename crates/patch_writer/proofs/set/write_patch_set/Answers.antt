@@ -15,16 +15,16 @@ use Rattle.bytes_wire.specs.Write.{overwrite}
 use Rattle.bytes_wire.proofs.WriteLaws.{length_overwrite, overwrite_append}
 use Rattle.projection_patch.specs.Meaning.{edition_of}
 use Rattle.projection_patch.specs.declared.patch.ProjectionPatchSet.{ProjectionPatchSet}
-use Rattle.std.specs.Prelude.{Result, Ok}
+use Rattle.std.specs.Prelude.{Result, Ok, Err}
 use Rattle.patch_part_writer.specs.declared.written.WriteRefusal.{WriteRefusal}
 use Rattle.patch_part_writer.specs.Answer.{written_at, output_at}
 use Rattle.patch_part_writer.specs.ExtentLaws.{length_heading}
-use Rattle.patch_part_writer.proofs.PartsLaws.{answers_refusal, answers_short, answers_wrote}
+use Rattle.patch_part_writer.proofs.PartsLaws.{PartAnswered, answers_refusal, answers_short, answers_wrote}
 use Rattle.patch_writer.specs.Set.{list_of, patch_set_bytes}
 use Rattle.patch_writer.proofs.CallLaws.{Arrays, few_patches, encode_parts, patches_fit, encode_size, written_read}
 use Rattle.patch_writer.proofs.Verdict.{survey_refused, SurveyWithin, survey_within}
 use Rattle.patch_writer.proofs.set.write_patch_set.Goals as goal
-use Rattle.patch_writer.proofs.set.write_patch_set.Goals.{In-Within, Start}
+use Rattle.patch_writer.proofs.set.write_patch_set.Goals.{In_err-operations, In_ok-operations, Start}
 
 arrays : (c : Start) → Arrays c.args.set
 arrays c = record { patches = search (rules, unmapped); operations = search (rules, unmapped) }
@@ -36,62 +36,71 @@ also-read : (c : Start) (r : Result ℕ WriteRefusal) (o : List ℕ)
     → (r ≡ written_at c.args.out.now 0 w) × ((o ≡ output_at c.args.out.now 0 w) × ((n : ℕ) → r ≡ Ok n → read_set (edition_of c.args.edition) (take n o) ≡ patches (list_of c.args.texts.now c.args.set)))
 also-read c r o h = (h.0, (h.1, written_read (edition_of c.args.edition) c.args.texts.now c.args.set (record { machine = _; known = c.well_formed.0 }) c.args.out.now r o h.0 h.1))
 
-abbrev ed : In-Within → Edition
+abbrev ed : In_ok-operations → Edition
 ed e = edition_of e.args.edition
 
-abbrev texts : In-Within → List ℕ
+abbrev texts : In_ok-operations → List ℕ
 texts e = e.args.texts.now
 
-abbrev set : In-Within → ProjectionPatchSet
+abbrev set : In_ok-operations → ProjectionPatchSet
 set e = e.args.set
 
-abbrev bytes : In-Within → ℕ
-bytes e = e.in-Within.bytes
+abbrev bytes : In_ok-operations → ℕ
+bytes e = e.in_ok-operations.bytes
 
-surveyed : (e : In-Within) → SurveyWithin (ed e) (texts e) (set e) e.in-Within.operations (bytes e)
-surveyed e = survey_within (ed e) (texts e) (set e) _ _ (sym e.survey_set.ensures ∙ e.in-Within.is)
+surveyed : (e : In_ok-operations) → SurveyWithin (ed e) (texts e) (set e) e.in_ok-operations.operations (bytes e)
+surveyed e = survey_within (ed e) (texts e) (set e) _ _ (sym e.survey_set.ensures ∙ e.in_ok-operations.was)
 
 -- the heading and the patches
-abbrev body : In-Within → List ℕ
+abbrev body : In_ok-operations → List ℕ
 body e = flat_map encode_patch (list_of (texts e) (set e))
 
-sized : (e : In-Within) → 35 + length (body e) ≡ bytes e
+sized : (e : In_ok-operations) → 35 + length (body e) ≡ bytes e
 sized e = patches_fit (texts e) (set e) ((let it : (Arrays e.args.set) = record { patches = search (rules, unmapped); operations = search (rules, unmapped) } in it)) (surveyed e).fit (surveyed e).inside ∙ sym (surveyed e).sized
 
-encoded-size : (e : In-Within) → length (encode (ed e) (list_of (texts e) (set e))) ≡ bytes e
+encoded-size : (e : In_ok-operations) → length (encode (ed e) (list_of (texts e) (set e))) ≡ bytes e
 encoded-size e = encode_size (texts e) (set e) ((let it : (Arrays e.args.set) = record { patches = search (rules, unmapped); operations = search (rules, unmapped) } in it)) (surveyed e).fit (ed e) (surveyed e).inside ∙ sym (surveyed e).sized
 
 pub returns-then-out-bytes : goal.returns-then-out-bytes
 returns-then-out-bytes c =
-    let all = also-read (goal.at.returns-then-out-bytes c).Start _ _ (answers_short c.args.out.now 0 (surveyed (goal.at.returns-then-out-bytes c).In-Within).result (bytes (goal.at.returns-then-out-bytes c).In-Within) (encoded-size (goal.at.returns-then-out-bytes c).In-Within) (lt-leb (0 + bytes (goal.at.returns-then-out-bytes c).In-Within) (length c.args.out.now) (omega (arith, c.if-out-bytes.true)))) in record { value = all.0; out_after = all.1.0; by_index = all.1.1 }
+    let all = also-read (goal.at.returns-then-out-bytes c).Start _ _ (answers_short c.args.out.now 0 (surveyed (goal.at.returns-then-out-bytes c).In_ok-operations).result (bytes (goal.at.returns-then-out-bytes c).In_ok-operations) (encoded-size (goal.at.returns-then-out-bytes c).In_ok-operations) (lt-leb (0 + bytes (goal.at.returns-then-out-bytes c).In_ok-operations) (length c.args.out.now) (omega (arith, c.if-out-bytes.true)))) in record { value = all.0; out_after = all.1.0; by_index = all.1.1 }
 
 pub store_heading-requires : goal.store_heading-requires
 store_heading-requires c =
-    (omega (arith, sized (goal.at.store_heading-requires c).In-Within, c.if-out-bytes.false), few_patches (texts (goal.at.store_heading-requires c).In-Within) (set (goal.at.store_heading-requires c).In-Within) (arrays (goal.at.store_heading-requires c).Start) (surveyed (goal.at.store_heading-requires c).In-Within).fit)
+    (omega (arith, sized (goal.at.store_heading-requires c).In_ok-operations, c.if-out-bytes.false), few_patches (texts (goal.at.store_heading-requires c).In_ok-operations) (set (goal.at.store_heading-requires c).In_ok-operations) (arrays (goal.at.store_heading-requires c).Start) (surveyed (goal.at.store_heading-requires c).In_ok-operations).fit)
 
 pub write_patches-requires : goal.write_patches-requires
 write_patches-requires c =
-    let long = ap length c.store_heading.ensures ∙ length_overwrite c.args.out.now 0 (heading (ed (goal.at.write_patches-requires c).In-Within) ++ u32 (set (goal.at.write_patches-requires c).In-Within).patch_count) in
+    let long = ap length c.store_heading.ensures ∙ length_overwrite c.args.out.now 0 (heading (ed (goal.at.write_patches-requires c).In_ok-operations) ++ u32 (set (goal.at.write_patches-requires c).In_ok-operations).patch_count) in
     record {
-      counted = (surveyed (goal.at.write_patches-requires c).In-Within).counted;
-      fit = (surveyed (goal.at.write_patches-requires c).In-Within).fit;
-      short = (surveyed (goal.at.write_patches-requires c).In-Within).short;
-      inside = (surveyed (goal.at.write_patches-requires c).In-Within).inside;
-      enough = omega (arith, long, sized (goal.at.write_patches-requires c).In-Within, c.if-out-bytes.false);
+      counted = (surveyed (goal.at.write_patches-requires c).In_ok-operations).counted;
+      fit = (surveyed (goal.at.write_patches-requires c).In_ok-operations).fit;
+      short = (surveyed (goal.at.write_patches-requires c).In_ok-operations).short;
+      inside = (surveyed (goal.at.write_patches-requires c).In_ok-operations).inside;
+      enough = omega (arith, long, sized (goal.at.write_patches-requires c).In_ok-operations, c.if-out-bytes.false);
     }
 
-pub returns-in-Refused : goal.returns-in-Refused
-returns-in-Refused c =
-    let all = also-read (goal.at.returns-in-Refused c).Start _ _ (answers_refusal c.args.out.now 0 c.in-Refused.refusal (survey_refused (edition_of c.args.edition) c.args.texts.now c.args.set c.in-Refused.refusal (sym c.survey_set.ensures ∙ c.in-Refused.is))) in record { value = all.0; out_after = all.1.0; by_index = all.1.1 }
+-- a refusal of the survey, and the output that is left
+refused : (k : In_err-operations) → PartAnswered k.args.out.now 0 (patch_set_bytes (edition_of k.args.edition) k.args.texts.now k.args.set) (Err k.in_err-operations.field-0.0) k.args.out.now
+refused k =
+    answers_refusal k.args.out.now 0 k.in_err-operations.field-0.0 (survey_refused (edition_of k.args.edition) k.args.texts.now k.args.set k.in_err-operations.field-0.0 (sym k.survey_set.ensures ∙ k.in_err-operations.was))
 
-pub returns-else-out-bytes : goal.returns-else-out-bytes
-returns-else-out-bytes c =
-    let all = let room : 35 + length (body (goal.at.returns-else-out-bytes c).In-Within) ≤ length c.args.out.now = omega (arith, sized (goal.at.returns-else-out-bytes c).In-Within, c.if-out-bytes.false) in
+pub returns-in_err-operations-clause-value : goal.returns-in_err-operations-clause-value
+returns-in_err-operations-clause-value c =
+    let told : c.from_residual.result ≡ Err c.in_err-operations.field-0.0 = search rules in
+    told ∙ (refused (goal.at.returns-in_err-operations-clause-value c).In_err-operations).0
+
+pub returns-in_err-operations-clause-out_after : goal.returns-in_err-operations-clause-out_after
+returns-in_err-operations-clause-out_after c = (refused (goal.at.returns-in_err-operations-clause-out_after c).In_err-operations).1
+
+pub returns : goal.returns
+returns c =
+    let all = let room : 35 + length (body (goal.at.returns c).In_ok-operations) ≤ length c.args.out.now = omega (arith, sized (goal.at.returns c).In_ok-operations, c.if-out-bytes.false) in
     let all =
     c.write_patches.ensures.out_after
-    ∙ ap (λ (o : List ℕ). overwrite o 35 (body (goal.at.returns-else-out-bytes c).In-Within)) c.store_heading.ensures
-    ∙ overwrite_append c.args.out.now 0 (heading (ed (goal.at.returns-else-out-bytes c).In-Within) ++ u32 (set (goal.at.returns-else-out-bytes c).In-Within).patch_count) (body (goal.at.returns-else-out-bytes c).In-Within) 35 (length_heading (ed (goal.at.returns-else-out-bytes c).In-Within) (set (goal.at.returns-else-out-bytes c).In-Within).patch_count) (omega arith)
-    ∙ ap (overwrite c.args.out.now 0) (sym (encode_parts (texts (goal.at.returns-else-out-bytes c).In-Within) (set (goal.at.returns-else-out-bytes c).In-Within) (arrays (goal.at.returns-else-out-bytes c).Start) (surveyed (goal.at.returns-else-out-bytes c).In-Within).fit (ed (goal.at.returns-else-out-bytes c).In-Within))) in
-    let answered = answers_wrote c.args.out.now 0 (surveyed (goal.at.returns-else-out-bytes c).In-Within).result (35 + length (body (goal.at.returns-else-out-bytes c).In-Within)) (encoded-size (goal.at.returns-else-out-bytes c).In-Within ∙ sym (sized (goal.at.returns-else-out-bytes c).In-Within)) (le-leb (0 + (35 + length (body (goal.at.returns-else-out-bytes c).In-Within))) (length c.args.out.now) (omega arith)) c.write_patches.new.out all in
-    let position : 35 + length (body (goal.at.returns-else-out-bytes c).In-Within) ≡ 0 + (35 + length (body (goal.at.returns-else-out-bytes c).In-Within)) = omega arith in
-    also-read (goal.at.returns-else-out-bytes c).Start _ _ (ap Ok (c.write_patches.ensures.value ∙ position) ∙ answered.0, answered.1) in record { value = all.0; out_after = all.1.0; by_index = all.1.1 }
+    ∙ ap (λ (o : List ℕ). overwrite o 35 (body (goal.at.returns c).In_ok-operations)) c.store_heading.ensures
+    ∙ overwrite_append c.args.out.now 0 (heading (ed (goal.at.returns c).In_ok-operations) ++ u32 (set (goal.at.returns c).In_ok-operations).patch_count) (body (goal.at.returns c).In_ok-operations) 35 (length_heading (ed (goal.at.returns c).In_ok-operations) (set (goal.at.returns c).In_ok-operations).patch_count) (omega arith)
+    ∙ ap (overwrite c.args.out.now 0) (sym (encode_parts (texts (goal.at.returns c).In_ok-operations) (set (goal.at.returns c).In_ok-operations) (arrays (goal.at.returns c).Start) (surveyed (goal.at.returns c).In_ok-operations).fit (ed (goal.at.returns c).In_ok-operations))) in
+    let answered = answers_wrote c.args.out.now 0 (surveyed (goal.at.returns c).In_ok-operations).result (35 + length (body (goal.at.returns c).In_ok-operations)) (encoded-size (goal.at.returns c).In_ok-operations ∙ sym (sized (goal.at.returns c).In_ok-operations)) (le-leb (0 + (35 + length (body (goal.at.returns c).In_ok-operations))) (length c.args.out.now) (omega arith)) c.write_patches.new.out all in
+    let position : 35 + length (body (goal.at.returns c).In_ok-operations) ≡ 0 + (35 + length (body (goal.at.returns c).In_ok-operations)) = omega arith in
+    also-read (goal.at.returns c).Start _ _ (ap Ok (c.write_patches.ensures.value ∙ position) ∙ answered.0, answered.1) in record { value = all.0; out_after = all.1.0; by_index = all.1.1 }
