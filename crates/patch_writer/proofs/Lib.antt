@@ -3,6 +3,5 @@ mod Elements
 mod Surveyed
 mod Verdict
 mod Turns
-mod Judged
 pub mod CallLaws
 pub mod Progress
