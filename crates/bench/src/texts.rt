@@ -1,12 +1,8 @@
 // The UTF-8 check of one text.
-use bytes_utf8::Utf8Check;
 
 // The number of characters, or 0.
 fn characters(text: &[u8]) -> u64 {
-    match bytes_utf8::check(text) {
-        Utf8Check::Valid { characters } => characters as u64,
-        Utf8Check::Invalid => 0,
-    }
+    bytes_utf8::check(text).map_or(0, |characters| characters as u64)
 }
 
 // Checks the text; its first byte is a new digit each time, which keeps the uses apart.

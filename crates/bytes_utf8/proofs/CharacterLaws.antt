@@ -9,13 +9,13 @@ use lib.Dec.{leb}
 use lib.ListN.{length, drop, get_or, replicate, length-drop, length-replicate}
 use lib.Seq.{drop-cons, drop-nil, drop-drop, get_or-drop}
 use borrow.Author.Tests.{le-leb}
-use Rattle.std.specs.Prelude.{if◌then◌else◌}
+use Rattle.std.specs.Prelude.{Some, None, if◌then◌else◌}
 use Rattle.spec_lists.proofs.ListLaws.{and_left, and_right, test_cases}
 use Rattle.spec_text.specs.Syntax.{Range, tail, inside, sequences, After, expects, refused, lead, advance, is_utf8_after, is_utf8, characters}
 use Rattle.spec_text.proofs.SyntaxLaws.{refused_stays}
 use Rattle.spec_text.proofs.SequenceLaws.{counted_from}
 use Rattle.bytes_utf8.specs.Classes.{class_of, IsTailClass, tails, sequence, after_class}
-use Rattle.bytes_utf8.specs.Characters.{matches, length_after, character_length}
+use Rattle.bytes_utf8.specs.Characters.{matches, length_after, character_length, if_any}
 use Rattle.bytes_utf8.proofs.TableLaws.{tail_class, lead_class}
 
 -- Octets are read up to a rest of theirs: the rest decides, and one character is counted before it.
@@ -88,6 +88,20 @@ pub tails_told : (text : List ℕ) (n i : ℕ) (t : Bool) {v : Bool} → i < n �
 tails_told text n i t h e f =
     let s : n - i ≡ suc (n - (i + 1)) = omega arith in
     rw s (matches_told tail (replicate (n - (i + 1)) tail) text i t e f)
+
+-- ---- a length that may be none
+
+pub found_length : (n m : ℕ) → Some n ≡ if_any m → (n ≡ m) × (n ≡ 0 → ⊥)
+found_length n zero e = cc
+found_length n (suc m) e = let same : n ≡ suc m = cc in (same, λ z. omega (arith, same))
+
+pub no_length : (m : ℕ) → None ≡ if_any m → 0 ≡ m
+no_length zero e = refl
+no_length (suc m) e = cc
+
+pub some_length : (n : ℕ) {m : ℕ} → 2 ≤ n → n ≡ m → Some n ≡ if_any m
+some_length zero h e = absurd (omega arith)
+some_length (suc n) h e = ap if_any e
 
 -- the length of a sequence that is there, and of one that is not
 pub sequence_there : (low high n : ℕ) (bs : List ℕ) → 2 ≤ n → matches (tails low high ∷ replicate (n - 2) tail) bs ≡ true → n ≡ length_after (sequence low high n) bs

@@ -12,7 +12,7 @@ use Rattle.spec_text.specs.Syntax.{After, is_utf8, characters}
 use Rattle.bytes_utf8.specs.Classes.{class_of, after_class}
 use Rattle.bytes_utf8.specs.Characters.{length_after, character_length, AsciiBetween, Reached}
 use Rattle.bytes_utf8.specs.Answer.{utf8_answer}
-use Rattle.bytes_utf8.specs.declared.Utf8Check.TheVariants.{Valid, Invalid}
+use Rattle.std.specs.Prelude.{Some, None}
 use Rattle.bytes_utf8.proofs.CharacterLaws.{character_read, character_refused, character_ascii, character_at}
 
 reached_start : (text : List ℕ) → Reached text 0 0
@@ -68,7 +68,7 @@ reached_front {text} {to} a =
 
 -- ---- the end
 
-pub reached_end : {text : List ℕ} {count i : ℕ} → Reached text count i → length text ≤ i → utf8_answer text ≡ Valid count
+pub reached_end : {text : List ℕ} {count i : ℕ} → Reached text count i → length text ≤ i → utf8_answer text ≡ Some count
 reached_end {text} {count} {i} r h =
     let e : i ≡ length text = le_antisymm r.within h in
     let done : drop i text ≡ [] = rw e (drop-length text) in
@@ -77,7 +77,7 @@ reached_end {text} {count} {i} r h =
     rw (← u, ← n, add-zero)
 
 pub reached_refused : {text : List ℕ} {count i : ℕ} → Reached text count i → i < length text → 0 ≡ character_length (drop i text)
-    → utf8_answer text ≡ Invalid
+    → utf8_answer text ≡ None
 reached_refused {text} {count} {i} r h e =
     let f = character_refused (drop i text) (rw (length-drop i text) (omega arith)) (sym e) in
     rw (sym r.same_utf8 ∙ f)

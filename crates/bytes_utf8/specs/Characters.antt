@@ -1,5 +1,5 @@
 -- The character that a text begins with, rows of bytes below 0x80, and how far a text was read.
-use Rattle.std.specs.Prelude.{ℕ, zero, suc, ◌+◌, ◌*◌, ◌≤◌, ◌<◌, ◌≡◌, Bool, true, false, ◌&&◌, List, [], ◌∷◌, length, get_or, drop, if◌then◌else◌}
+use Rattle.std.specs.Prelude.{ℕ, zero, suc, ◌+◌, ◌*◌, ◌≤◌, ◌<◌, ◌≡◌, Bool, true, false, ◌&&◌, List, [], ◌∷◌, length, get_or, drop, Option, Some, None, if◌then◌else◌}
 use Rattle.std.specs.Int.Bits.{bit_and}
 use Rattle.spec_text.specs.Syntax.{Range, inside, sequences, After, expects, refused, lead, is_utf8, characters}
 
@@ -18,6 +18,11 @@ length_after refused bs = 0
 unfoldable pub character_length : List ℕ → ℕ
 character_length [] = 0
 character_length (b ∷ bs) = length_after (lead sequences b) bs
+
+-- A length, if it is not 0.
+abbrev pub if_any : ℕ → Option ℕ
+if_any zero = None
+if_any (suc n) = Some (suc n)
 
 -- The bytes from one position to another are below 0x80.
 pub record AsciiBetween (text : List ℕ) (from to : ℕ) : Type 0 where

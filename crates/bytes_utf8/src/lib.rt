@@ -4,18 +4,12 @@
 
 ghost use Rattle.std.specs.Prelude.{◌+◌, ◌≤◌, ◌<◌, ◌≡◌, true, [], ◌∷◌, length, drop};
 ghost use Rattle.bytes_utf8.specs.Classes.{class_of, IsClassTable, IsTailClass, tails, sequence, Leads};
-ghost use Rattle.bytes_utf8.specs.Characters.{matches, length_after, character_length, AsciiBetween, TellsAscii, Reached};
+ghost use Rattle.bytes_utf8.specs.Characters.{matches, length_after, character_length, if_any, AsciiBetween, TellsAscii, Reached};
 ghost use Rattle.bytes_utf8.specs.Answer.{utf8_answer};
 
 mod tables;
 
 use tables::CLASSES;
-
-#[derive(Drop)]
-pub enum Utf8Check {
-    Valid { characters: usize },
-    Invalid,
-}
 
 // How far a text was read: so many bytes, which are so many characters.
 #[derive(Clone, Copy)]
@@ -44,31 +38,35 @@ fn is_tail(classes: &[u8; 256], text: &[u8], at: usize, low: u8, high: u8) -> bo
     false
 }
 
-// The length of the sequence that the first byte begins, if its tails stand there, the first of them of the classes low to high; else 0.
-fn sequence_length(classes: &[u8; 256], text: &[u8], low: u8, high: u8, length: usize) -> usize
+// The length of the sequence that the first byte begins, if its tails stand there, the first of them of the classes low to high.
+fn sequence_length(
+    classes: &[u8; 256],
+    text: &[u8],
+    low: u8,
+    high: u8,
+    length: usize,
+) -> Option<usize>
     requires { IsClassTable classes.now × IsTailClass low × IsTailClass high × (2 ≤ length) }
-    ensures { result ≡ length_after (sequence low high length) (drop 1 text.now) }
+    ensures { result ≡ if_any (length_after (sequence low high length) (drop 1 text.now)) }
 {
     if !is_tail(classes, text, 1, low, high) {
-        return 0;
+        return None;
     }
-    let mut i: usize = 2;
-    while i < length {
+    for i in 2..length {
         if !is_tail(classes, text, i, 1, 3) {
-            return 0;
+            return None;
         }
-        i += 1;
     }
-    length
+    Some(length)
 }
 
-// The number of bytes of the character that the text begins with, or 0 if it begins with none.
-fn character_length(classes: &[u8; 256], text: &[u8]) -> usize
+// The number of bytes of the character that the text begins with, if it begins with one.
+fn character_length(classes: &[u8; 256], text: &[u8]) -> Option<usize>
     requires { IsClassTable classes.now × (0 < length text.now) }
-    ensures { result ≡ character_length text.now }
+    ensures { result ≡ if_any (character_length text.now) }
 {
     match class_of(classes, text[0]) {
-        0 => 1,
+        0 => Some(1),
         4 => sequence_length(classes, text, 1, 3, 2),
         5 => sequence_length(classes, text, 3, 3, 3),
         6 => sequence_length(classes, text, 1, 3, 3),
@@ -76,7 +74,7 @@ fn character_length(classes: &[u8; 256], text: &[u8]) -> usize
         8 => sequence_length(classes, text, 2, 3, 4),
         9 => sequence_length(classes, text, 1, 3, 4),
         10 => sequence_length(classes, text, 1, 1, 4),
-        _ => 0,
+        _ => None,
     }
 }
 
@@ -152,14 +150,12 @@ fn ascii_end(classes: &[u8; 256], text: &[u8], from: usize) -> usize
     if class_of(classes, text[next]) != 0 {
         return next;
     }
-    let mut i = groups_end(text, next);
-    while i < text.len() {
+    for i in groups_end(text, next)..text.len() {
         if class_of(classes, text[i]) != 0 {
             return i;
         }
-        i += 1;
     }
-    i
+    text.len()
 }
 
 // The position behind a character of this width whose first byte is of this class, or the same position where none stands.
@@ -180,10 +176,9 @@ fn character_end(
     if class_of(classes, text[at]) != lead {
         return from;
     }
-    let length = sequence_length(classes, &text[at..], 1, 3, width);
-    if length == 0 {
+    let Some(length) = sequence_length(classes, &text[at..], 1, 3, width) else {
         return from;
-    }
+    };
     Position {
         at: at + length,
         characters: from.characters + 1,
@@ -220,10 +215,9 @@ fn wide_end(classes: &[u8; 256], text: &[u8], from: Position) -> Position
     let mut at = from.at;
     let mut characters = from.characters;
     while at < text.len() {
-        let length = character_length(classes, &text[at..]);
-        if length == 0 {
+        let Some(length) = character_length(classes, &text[at..]) else {
             return Position { at, characters };
-        }
+        };
         at += length;
         characters += 1;
         if length < 3 {
@@ -248,7 +242,7 @@ fn other_end(classes: &[u8; 256], text: &[u8], from: Position) -> Position
 
 // The check of a text whose bytes before the position are below 0x80. Characters of two bytes and of one are passed in rows, as words and what
 // stands between them, and where none stands other characters.
-fn check_from(classes: &[u8; 256], text: &[u8], from: usize) -> Utf8Check
+fn check_from(classes: &[u8; 256], text: &[u8], from: usize) -> Option<usize>
     requires { IsClassTable classes.now × AsciiBetween text.now 0 from }
     ensures { result ≡ utf8_answer text.now }
 {
@@ -264,13 +258,13 @@ fn check_from(classes: &[u8; 256], text: &[u8], from: usize) -> Utf8Check
         } else {
             let next = other_end(classes, text, Position { at: i, characters });
             if next.at == i {
-                return Utf8Check::Invalid;
+                return None;
             }
             characters = next.characters;
             i = next.at;
         }
     }
-    Utf8Check::Valid { characters }
+    Some(characters)
 }
 
 // The position behind the groups below 0x80 at the start. Where only a part of a group is left, the last 16 bytes are a group too.
@@ -291,13 +285,13 @@ fn front_end(text: &[u8]) -> usize
     passed
 }
 
-// Whether the text is UTF-8, and the number of its characters. The table is written out for a text that is not whole groups of bytes below 0x80.
-pub fn check(text: &[u8]) -> Utf8Check
+// The number of characters of a text that is UTF-8. The table is written out for a text that is not whole groups of bytes below 0x80.
+pub fn check(text: &[u8]) -> Option<usize>
     ensures { result ≡ utf8_answer text.now }
 {
     let passed = front_end(text);
     if passed == text.len() {
-        return Utf8Check::Valid { characters: passed };
+        return Some(passed);
     }
     let classes = CLASSES;
     check_from(&classes, text, passed)

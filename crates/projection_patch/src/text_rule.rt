@@ -3,7 +3,6 @@ ghost use Rattle.std.specs.Prelude.{◌≡◌};
 ghost use Rattle.projection_patch.specs.TextRule.{judgement};
 
 use crate::patch::ProjectionPatchValue;
-use bytes_utf8::Utf8Check;
 
 // What the rule has against a text that keeps its bytes.
 #[derive(Clone, Copy, PartialEq, Eq)]
@@ -16,14 +15,10 @@ pub enum TextFault {
 pub fn judge_text(text: &[u8]) -> Result<(), TextFault>
     ensures { result ≡ judgement text.now }
 {
-    match bytes_utf8::check(text) {
-        Utf8Check::Valid { characters } => {
-            if characters <= ProjectionPatchValue::TEXT_CHARACTERS {
-                Ok(())
-            } else {
-                Err(TextFault::ManyCharacters)
-            }
-        }
-        Utf8Check::Invalid => Err(TextFault::Malformed),
+    let characters = bytes_utf8::check(text).ok_or(TextFault::Malformed)?;
+    if characters <= ProjectionPatchValue::TEXT_CHARACTERS {
+        Ok(())
+    } else {
+        Err(TextFault::ManyCharacters)
     }
 }

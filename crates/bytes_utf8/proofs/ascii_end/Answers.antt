@@ -1,6 +1,8 @@
 -- `bytes_utf8::ascii_end` meets its contract: the loop's invariant is the claim of the position reached.
 use Prim.Native.Nat.{◌+◌}
-use mathlib.Core.Path.{sym, ◌∙◌}
+use mathlib.Core.Path.{◌≡◌, sym, ◌∙◌}
+use native.Mathlib.Omega.{arith}
+use lib.ListN.{length}
 use borrow.Author.Rules.{rules}
 use Rattle.bytes_utf8.specs.Characters.{AsciiBetween}
 use Rattle.bytes_utf8.proofs.AsciiLaws.{ascii_none, ascii_joined, ascii_one}
@@ -33,4 +35,4 @@ loop-i-preserved c =
     ascii_joined c.loop-i.invariant (ascii_one c.loop-i-test.true (class_ascii _ (c.type_inv.text c.loop-i.i).fits (sym c.class_of-in-loop-i.ensures ∙ c.if-class_of-ne0-3.false)))
 
 pub returns : goal.returns
-returns c = c.loop-i.invariant
+returns c = let end : c.loop-i.i ≡ length c.args.text.now = omega (arith, c.groups_end-i.ensures.within) in rw (← end) c.loop-i.invariant

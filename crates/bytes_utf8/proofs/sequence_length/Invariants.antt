@@ -10,6 +10,3 @@ use Rattle.bytes_utf8.proofs.sequence_length.Given as goal
 abbrev pub invariant-loop-i : goal.invariant-loop-i
 invariant-loop-i l =
     (2 ≤ l.i) × (l.i ≤ l.length) × (matches (tails l.low l.high ∷ replicate (l.length - 2) tail) (drop 1 l.text) ≡ matches (replicate (l.length - l.i) tail) (drop l.i l.text))
-
-abbrev pub decreases-loop-i : goal.decreases-loop-i
-decreases-loop-i l = l.length - l.i
