@@ -1,5 +1,6 @@
 -- On a readable set a walk visits exactly the heads and the operations of its patches, whatever the edition, and whether texts are checked
 -- or not. Each law takes the answer of one step.
+use Rattle.std.specs.Prelude as code
 use Rattle.std.specs.Prelude.{ℕ, ◌+◌, ◌-◌, ◌≤◌, ◌<◌, ◌≡◌, refl, Bool, length}
 use Rattle.std.proofs.Math.Path.{sym, ap}
 use Rattle.std.proofs.Common.{◌∙◌, subst, length-append, length-drop, drop_at, drop-drop}
@@ -18,7 +19,7 @@ use Rattle.spec_patch.specs.Read.{read_operation_by, patches, read_set}
 use Rattle.spec_patch.proofs.ReadLaws.{reads_operation}
 use Rattle.spec_patch.proofs.SetLaws.{was_encoded}
 use Rattle.projection_patch.specs.Meaning.{operation_to, operation_of}
-use Rattle.projection_patch.specs.ReadAnswers.{answer, anywhere, lent_from}
+use Rattle.projection_patch.specs.ReadAnswers.{answer, anywhere, plain, lent_from}
 use Rattle.projection_patch.specs.TextLaws.{operation_encoded_back}
 use Rattle.projection_patch.specs.declared.patch.ProjectionPatch.{ProjectionPatch}
 use Rattle.projection_patch.specs.declared.patch.ProjectionPatchOperation.{ProjectionPatchOperation}
@@ -26,21 +27,18 @@ use Rattle.projection_patch.specs.declared.read_values.ProjectionPatchReadFault.
 use Rattle.patch_sets.specs.Walk.{read_heading, read_head, head_of, encode_heading, encode_head}
 use Rattle.patch_sets.specs.HeadLaws.{heading_codec, head_codec}
 use Rattle.patch_sets.specs.SetAnswers.{head_to}
-use Rattle.patch_walk.specs.Steps.{first_cursor, after_operation, after_head, open_answer, step_answer, AtSteps}
+use Rattle.patch_walk.specs.Steps.{OpenAnswer, StepAnswer, made_of, first_cursor, after_operation, after_head, open_answer, step_answer, AtSteps}
 use Rattle.patch_walk.specs.declared.SetCursor.{SetCursor}
-use Rattle.patch_walk.specs.declared.SetOpening.{SetOpening}
-use Rattle.patch_walk.specs.declared.SetOpening.TheVariants as opening
-use Rattle.patch_walk.specs.declared.SetStep.{SetStep}
 use Rattle.patch_walk.specs.declared.SetStep.TheVariants as set-step
 
 -- ---- one step, whatever is read
 
 -- the answer of a reading from bytes that begin with an encoded value
-module _ {A X B : Type 0} (p : Reader A) (to : ℕ → A → X) (reading : X → ℕ → B) (refusal : ProjectionPatchReadFault → B) where
-  answered : (front rest : List ℕ) (a : A) → p (front ++ rest) ≡ read a rest → (bs : List ℕ) → bs ≡ front ++ rest → answer to reading refusal (length bs) (p bs) ≡ reading (to (length front) a) (length front)
+module _ {A X Y : Type 0} (p : Reader A) (to : ℕ → A → X) (f : X → ℕ → Y) where
+  answered : (front rest : List ℕ) (a : A) → p (front ++ rest) ≡ read a rest → (bs : List ℕ) → bs ≡ front ++ rest → made_of f (answer to (length bs) (p bs)) ≡ code.Ok (f (to (length front) a) (length front))
   answered front rest a back bs is =
       let end : length (front ++ rest) - length rest ≡ length front = omega (arith, length-append front rest) in
-      ap (λ (l : List ℕ). answer to reading refusal (length l) (p l)) is ∙ rw (back, end)
+      ap (λ (l : List ℕ). made_of f (answer to (length l) (p l))) is ∙ rw (back, end)
 
 -- behind the bytes that were taken the rest is left
 record Advanced (set : List ℕ) (at : ℕ) (rest : List ℕ) : Type 0 where
@@ -69,10 +67,10 @@ module _ (ed : Edition) (set : List ℕ) (all : Bytes set) (ps : List Patch) (re
   short = rw (was_encoded ed set ps all readable).0 (was_encoded ed set ps all readable).1.short
 
   -- a readable set is opened before its first patch
-  pub opens : open_answer ed set ≡ opening.At (first_cursor (length ps) from)
+  pub opens : open_answer ed set ≡ code.Ok (first_cursor (length ps) from)
   opens =
       rw (le-leb (length set) set_bytes short)
-      (answered (read_heading ed) (anywhere (λ n. n)) (λ count from. opening.At (first_cursor count from)) opening.Refused (encode_heading ed (length ps)) (flat_map encode_patch ps) (length ps) ((heading_codec ed).back (length ps) (was_encoded ed set ps all readable).1.few (flat_map encode_patch ps)) set set_is)
+      (answered (read_heading ed) plain first_cursor (encode_heading ed (length ps)) (flat_map encode_patch ps) (length ps) ((heading_codec ed).back (length ps) (was_encoded ed set ps all readable).1.few (flat_map encode_patch ps)) set set_is)
 
   pub at_start : AtSteps ed set (first_cursor (length ps) from) [] ps
   unfolding flat_map
@@ -88,15 +86,15 @@ module _ (ed : Edition) (set : List ℕ) (all : Bytes set) (ps : List Patch) (re
         patches = refl;
       }
 
-  module _ {r : SetOpening} (answer_is : r ≡ open_answer ed set) where
+  module _ {r : OpenAnswer} (answer_is : r ≡ open_answer ed set) where
     -- so an answer is before the first patch, and no refusal
-    pub opened_at : (c : SetCursor) → r ≡ opening.At c → AtSteps ed set c [] ps
+    pub opened_at : (c : SetCursor) → r ≡ code.Ok c → AtSteps ed set c [] ps
     opened_at c q =
-        let same : opening.At (first_cursor (length ps) from) ≡ opening.At c = sym opens ∙ sym answer_is ∙ q in
+        let same : ◌≡◌ {A = OpenAnswer} (code.Ok (first_cursor (length ps) from)) (code.Ok c) = sym opens ∙ sym answer_is ∙ q in
         let cursor : first_cursor (length ps) from ≡ c = cc same in
         subst (λ d. AtSteps ed set d [] ps) cursor at_start
 
-    pub never_unopened : (f : ProjectionPatchReadFault) → r ≡ opening.Refused f → ⊥
+    pub never_unopened : (f : ProjectionPatchReadFault) → r ≡ code.Err f → ⊥
     never_unopened f q = let z : ◌≡◌ {A = ℕ} 0 1 = cc (sym opens ∙ sym answer_is ∙ q) in omega arith
 
 -- ---- a step
@@ -137,12 +135,12 @@ module _ (check : Bool) (ed : Edition) (set : List ℕ) (c : SetCursor) where
     abbrev size : ℕ
     size = length (encode_operation o)
 
-    pub operation_is : step_answer check ed c set ≡ set-step.Operation (operation_to size o) (after_operation c size)
+    pub operation_is : step_answer check ed c set ≡ code.Ok (set-step.Operation (operation_to size o) (after_operation c size))
     unfolding step_answer
     operation_is =
         let some' : 0 < c.operations_left = omega (arith, here.operations) in
         rw (lt-ltb 0 c.operations_left some')
-        (answered (read_operation_by check ed) operation_to (λ x taken. set-step.Operation x (after_operation c taken)) set-step.Refused (encode_operation o) after o (reads_operation check ed o here.fit.0 after) (drop c.at set) bytes_are)
+        (answered (read_operation_by check ed) operation_to (λ x taken. set-step.Operation x (after_operation c taken)) (encode_operation o) after o (reads_operation check ed o here.fit.0 after) (drop c.at set) bytes_are)
 
     pub visit : Visited ed set c (o ∷ os) ps (operation_to size o) (after_operation c size)
     visit =
@@ -173,13 +171,13 @@ module _ (check : Bool) (ed : Edition) (set : List ℕ) (c : SetCursor) where
     abbrev head_size : ℕ
     head_size = length (encode_head (head_of p))
 
-    pub head_is : step_answer check ed c set ≡ set-step.Head (head_to (head_of p)) (after_head c (head_to (head_of p)) head_size)
+    pub head_is : step_answer check ed c set ≡ code.Ok (set-step.Head (head_to (head_of p)) (after_head c (head_to (head_of p)) head_size))
     unfolding step_answer
     head_is =
         let none : c.operations_left ≤ 0 = omega (arith, here.operations) in
         let some' : 0 < c.patches_left = omega (arith, here.patches) in
         rw (le-ltb 0 c.operations_left none, lt-ltb 0 c.patches_left some')
-        (answered read_head (anywhere head_to) (λ h taken. set-step.Head h (after_head c h taken)) set-step.Refused (encode_head (head_of p)) inner (head_of p) (head_codec.back (head_of p) (here.fit_rest.0.envelope, here.fit_rest.0.few) inner) (drop c.at set) patch_is)
+        (answered read_head (anywhere head_to) (λ h taken. set-step.Head h (after_head c h taken)) (encode_head (head_of p)) inner (head_of p) (head_codec.back (head_of p) (here.fit_rest.0.envelope, here.fit_rest.0.few) inner) (drop c.at set) patch_is)
 
     pub entered : Opened ed set c [] (p ∷ ps) (head_to (head_of p)) (after_head c (head_to (head_of p)) head_size)
     entered =
@@ -194,7 +192,7 @@ module _ (check : Bool) (ed : Edition) (set : List ℕ) (c : SetCursor) where
           next = record { inside = a.inside; fit = here.fit_rest.0.operations; fit_rest = here.fit_rest.1; left = a.left; operations = refl; patches = omega (arith, here.patches) };
         }
 
-  pub end_is : AtSteps ed set c [] [] → step_answer check ed c set ≡ set-step.End
+  pub end_is : AtSteps ed set c [] [] → step_answer check ed c set ≡ (code.Ok set-step.End)
   unfolding step_answer
   end_is here =
       let none : c.operations_left ≤ 0 = omega (arith, here.operations) in
@@ -202,20 +200,20 @@ module _ (check : Bool) (ed : Edition) (set : List ℕ) (c : SetCursor) where
       rw (le-ltb 0 c.operations_left none, le-ltb 0 c.patches_left last)
 
   -- what an answer tells of what is left
-  module _ {os : List Operation} {ps : List Patch} (here : AtSteps ed set c os ps) {r : SetStep} (answer_is : r ≡ step_answer check ed c set) where
-    pub visited : (x : ProjectionPatchOperation) (d : SetCursor) → r ≡ set-step.Operation x d → Visited ed set c os ps x d
+  module _ {os : List Operation} {ps : List Patch} (here : AtSteps ed set c os ps) {r : StepAnswer} (answer_is : r ≡ step_answer check ed c set) where
+    pub visited : (x : ProjectionPatchOperation) (d : SetCursor) → r ≡ code.Ok (set-step.Operation x d) → Visited ed set c os ps x d
     visited x d q = go os ps here
       where
         go : (os : List Operation) (ps : List Patch) → AtSteps ed set c os ps → Visited ed set c os ps x d
         go (o ∷ os) ps h =
-            let same : set-step.Operation (operation_to (length (encode_operation o)) o) (after_operation c (length (encode_operation o))) ≡ set-step.Operation x d = sym (operation_is o os ps h) ∙ sym answer_is ∙ q in
+            let same : ◌≡◌ {A = StepAnswer} (code.Ok (set-step.Operation (operation_to (length (encode_operation o)) o) (after_operation c (length (encode_operation o))))) (code.Ok (set-step.Operation x d)) = sym (operation_is o os ps h) ∙ sym answer_is ∙ q in
             let one : operation_to (length (encode_operation o)) o ≡ x = cc same in
             let two : after_operation c (length (encode_operation o)) ≡ d = cc same in
             subst (λ y. Visited ed set c (o ∷ os) ps y d) one (subst (λ e. Visited ed set c (o ∷ os) ps (operation_to (length (encode_operation o)) o) e) two (visit o os ps h))
         go [] (p ∷ ps) h = absurd (let z : ◌≡◌ {A = ℕ} 0 1 = cc (sym (head_is p ps h) ∙ sym answer_is ∙ q) in omega arith)
         go [] [] h = absurd (let z : ◌≡◌ {A = ℕ} 0 1 = cc (sym (end_is h) ∙ sym answer_is ∙ q) in omega arith)
 
-    pub opened : (head : ProjectionPatch) (d : SetCursor) → r ≡ set-step.Head head d → Opened ed set c os ps head d
+    pub opened : (head : ProjectionPatch) (d : SetCursor) → r ≡ code.Ok (set-step.Head head d) → Opened ed set c os ps head d
     opened head d q = go os ps here
       where
         go : (os : List Operation) (ps : List Patch) → AtSteps ed set c os ps → Opened ed set c os ps head d
@@ -223,14 +221,14 @@ module _ (check : Bool) (ed : Edition) (set : List ℕ) (c : SetCursor) where
         go [] (p ∷ ps) h =
             let first = head_to (head_of p) in
             let size = length (encode_head (head_of p)) in
-            let same : set-step.Head first (after_head c first size) ≡ set-step.Head head d = sym (head_is p ps h) ∙ sym answer_is ∙ q in
+            let same : ◌≡◌ {A = StepAnswer} (code.Ok (set-step.Head first (after_head c first size))) (code.Ok (set-step.Head head d)) = sym (head_is p ps h) ∙ sym answer_is ∙ q in
             let one : first ≡ head = cc same in
             let two : after_head c first size ≡ d = cc same in
             subst (λ y. Opened ed set c [] (p ∷ ps) y d) one (subst (λ e. Opened ed set c [] (p ∷ ps) first e) two (entered p ps h))
         go [] [] h = absurd (let z : ◌≡◌ {A = ℕ} 0 1 = cc (sym (end_is h) ∙ sym answer_is ∙ q) in omega arith)
 
     -- behind the last step nothing is left
-    pub done : r ≡ set-step.End → (os ≡ []) × (ps ≡ [])
+    pub done : r ≡ (code.Ok set-step.End) → (os ≡ []) × (ps ≡ [])
     done q = go os ps here
       where
         go : (os : List Operation) (ps : List Patch) → AtSteps ed set c os ps → (os ≡ []) × (ps ≡ [])
@@ -239,7 +237,7 @@ module _ (check : Bool) (ed : Edition) (set : List ℕ) (c : SetCursor) where
         go [] [] h = (refl, refl)
 
     -- no step is refused
-    pub never_refused : (f : ProjectionPatchReadFault) → r ≡ set-step.Refused f → ⊥
+    pub never_refused : (f : ProjectionPatchReadFault) → r ≡ code.Err f → ⊥
     never_refused f q = go os ps here
       where
         go : (os : List Operation) (ps : List Patch) → AtSteps ed set c os ps → ⊥

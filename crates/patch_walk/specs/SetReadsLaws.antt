@@ -1,4 +1,5 @@
 -- A step of a strict walk reads what is left from the front: what is left behind it answers as what was left before, whatever the edition.
+use Rattle.std.specs.Prelude as code
 use Rattle.std.specs.Prelude.{ℕ, suc, ◌+◌, ◌-◌, ◌≤◌, ◌<◌, ◌≡◌, true, leb, ltb, drop}
 use Rattle.std.proofs.Math.Path.{refl, sym, ap, ap₂}
 use Rattle.std.proofs.Common.{◌∙◌, subst, drop-drop}
@@ -18,23 +19,18 @@ use Rattle.spec_patch.specs.Read.{read_operation, to_patch, read_patch, ended, r
 use Rattle.spec_patch.proofs.Codec.{Codec, suffix, many_codec}
 use Rattle.spec_patch.proofs.ReadLaws.{operation_codec, patch_codec}
 use Rattle.projection_patch.specs.Meaning.{operation_to}
-use Rattle.projection_patch.specs.ReadAnswers.{fault_to, answer, anywhere}
+use Rattle.projection_patch.specs.ReadAnswers.{fault_to, answer, anywhere, plain}
 use Rattle.patch_sets.specs.Walk.{read_heading, read_head}
 use Rattle.patch_sets.specs.HeadLaws.{heading_codec, head_codec, patches_by_heading, patch_by_head}
 use Rattle.patch_sets.specs.SetAnswers.{head_to, operation_count_lem}
-use Rattle.patch_walk.specs.Steps.{first_cursor, after_operation, after_head, open_answer, operation_step, head_step, step_answer}
-use Rattle.patch_walk.specs.SetReads.{set_answer, read_left, left_answer, left_at, end_answer}
+use Rattle.patch_walk.specs.Steps.{OpenAnswer, StepAnswer, made_of, first_cursor, after_operation, after_head, open_answer, operation_step, head_step, step_answer}
+use Rattle.patch_walk.specs.SetReads.{CountAnswer, counted, set_answer, read_left, left_answer, left_at, end_answer}
 use Rattle.patch_walk.specs.declared.SetCursor.{SetCursor}
-use Rattle.patch_walk.specs.declared.SetOpening.{SetOpening}
-use Rattle.patch_walk.specs.declared.SetOpening.TheVariants as opening
-use Rattle.patch_walk.specs.declared.SetRead.{SetRead}
-use Rattle.patch_walk.specs.declared.SetRead.TheVariants as set-read
-use Rattle.patch_walk.specs.declared.SetStep.{SetStep}
 use Rattle.patch_walk.specs.declared.SetStep.TheVariants as set-step
 
 -- ---- what is left, on plain bytes
 
-abbrev left : Edition → ℕ → ℕ → ℕ → ℕ → List ℕ → SetRead
+abbrev left : Edition → ℕ → ℕ → ℕ → ℕ → List ℕ → CountAnswer
 left ed count done n m bs = left_answer count done (read_left ed n m bs)
 
 module _ (ed : Edition) (count done n m : ℕ) (bs : List ℕ) where
@@ -45,7 +41,7 @@ module _ (ed : Edition) (count done n m : ℕ) (bs : List ℕ) where
       by_patches : (os : List Operation) (r : Result (List Patch)) → left_answer count (done + 1) (onward r (λ ps rest. read (os, ps) rest)) ≡ left_answer count done (onward r (λ ps rest. read (o ∷ os, ps) rest))
       by_patches os (read ps []) =
           let same : done + 1 + (length os + operation_count_lem ps) ≡ done + (suc (length os) + operation_count_lem ps) = omega arith in
-          ap (set-read.Read count) same
+          ap (counted count) same
       by_patches os (read ps (b ∷ rest)) = refl
       by_patches os (refused f) = refl
 
@@ -54,7 +50,7 @@ module _ (ed : Edition) (count done n m : ℕ) (bs : List ℕ) where
       by_operations (read os rest) = by_patches os (many m (read_patch ed) rest)
       by_operations (refused f) = refl
 
-  operation_refused : (f : Fault) → read_operation ed bs ≡ refused f → set-read.Refused (fault_to f) ≡ left ed count done (suc n) m bs
+  operation_refused : (f : Fault) → read_operation ed bs ≡ refused f → code.Err (fault_to f) ≡ left ed count done (suc n) m bs
   unfolding many
   operation_refused f e = rw e
 
@@ -66,7 +62,7 @@ module _ (ed : Edition) (count done n m : ℕ) (bs : List ℕ) where
           ≡ left_answer count done (onward (onward r (λ more rest. read (to_patch (h.0, os) ∷ more) rest)) (λ ps rest. read ([], ps) rest))
       by_patches os (read ps []) =
           let same : done + (length os + operation_count_lem ps) ≡ done + (0 + (length os + operation_count_lem ps)) = omega arith in
-          ap (set-read.Read count) same
+          ap (counted count) same
       by_patches os (read ps (b ∷ rest)) = refl
       by_patches os (refused f) = refl
 
@@ -75,18 +71,18 @@ module _ (ed : Edition) (count done n m : ℕ) (bs : List ℕ) where
       by_operations (read os rest) = by_patches os (many m (read_patch ed) rest)
       by_operations (refused f) = refl
 
-  head_refused : (f : Fault) → read_head bs ≡ refused f → set-read.Refused (fault_to f) ≡ left ed count done 0 (suc m) bs
+  head_refused : (f : Fault) → read_head bs ≡ refused f → code.Err (fault_to f) ≡ left ed count done 0 (suc m) bs
   unfolding many
   head_refused f e = rw (patch_by_head ed bs, e)
 
 -- ---- a step
 
 -- what a step tells of what is left
-abbrev pub StepLeft : Edition → List ℕ → SetCursor → ℕ → SetStep → Type 0
-StepLeft ed set c done (set-step.Head h d) = left_at ed set d done ≡ left_at ed set c done
-StepLeft ed set c done (set-step.Operation x d) = left_at ed set d (done + 1) ≡ left_at ed set c done
-StepLeft ed set c done set-step.End = end_answer (length set) c done ≡ left_at ed set c done
-StepLeft ed set c done (set-step.Refused f) = set-read.Refused f ≡ left_at ed set c done
+abbrev pub StepLeft : Edition → List ℕ → SetCursor → ℕ → StepAnswer → Type 0
+StepLeft ed set c done (code.Ok (set-step.Head h d)) = left_at ed set d done ≡ left_at ed set c done
+StepLeft ed set c done (code.Ok (set-step.Operation x d)) = left_at ed set d (done + 1) ≡ left_at ed set c done
+StepLeft ed set c done (code.Ok set-step.End) = end_answer (length set) c done ≡ left_at ed set c done
+StepLeft ed set c done (code.Err f) = code.Err f ≡ left_at ed set c done
 
 module _ (ed : Edition) (set : List ℕ) (all : Bytes set) (c : SetCursor) (done : ℕ) where
   abbrev bs : List ℕ
@@ -108,7 +104,7 @@ module _ (ed : Edition) (set : List ℕ) (all : Bytes set) (c : SetCursor) (done
       again : left ed count done (suc n) c.patches_left bs ≡ left_at ed set c done
       again = let same : suc (c.operations_left - 1) ≡ c.operations_left = omega arith in ap (λ (k : ℕ). left ed count done k c.patches_left bs) same
 
-      go : (r : Result Operation) → read_operation ed bs ≡ r → StepLeft ed set c done (answer operation_to (λ x taken. set-step.Operation x (after_operation c taken)) set-step.Refused (length bs) r)
+      go : (r : Result Operation) → read_operation ed bs ≡ r → StepLeft ed set c done (made_of (λ x taken. set-step.Operation x (after_operation c taken)) (answer operation_to (length bs) r))
       go (refused f) e = operation_refused ed count done n c.patches_left bs f e ∙ again
       go (read o rest) e = ap (left ed count (done + 1) n c.patches_left) (behind (operation_codec ed) o rest e) ∙ operation_turn ed count done n c.patches_left bs o rest e ∙ again
 
@@ -124,7 +120,7 @@ module _ (ed : Edition) (set : List ℕ) (all : Bytes set) (c : SetCursor) (done
           let two : suc (c.patches_left - 1) ≡ c.patches_left = omega arith in
           ap₂ (λ (j k : ℕ). left ed count done j k bs) one two
 
-      go : (r : Result (Envelope × ℕ)) → read_head bs ≡ r → StepLeft ed set c done (answer (anywhere head_to) (λ h taken. set-step.Head h (after_head c h taken)) set-step.Refused (length bs) r)
+      go : (r : Result (Envelope × ℕ)) → read_head bs ≡ r → StepLeft ed set c done (made_of (λ h taken. set-step.Head h (after_head c h taken)) (answer (anywhere head_to) (length bs) r))
       go (refused f) e = head_refused ed count done 0 m bs f e ∙ again
       go (read h rest) e = ap (left ed count done h.1 m) (behind head_codec h rest e) ∙ head_turn ed count done 0 m bs h rest e ∙ again
 
@@ -138,7 +134,7 @@ module _ (ed : Edition) (set : List ℕ) (all : Bytes set) (c : SetCursor) (done
       rw (one, two)
       (test_cases (ltb c.at (length set))
       (λ t. rw (t, drop-cons set c.at 0 (ltb-true c.at (length set) t)))
-      (λ t. rw (t, drop_of_length-le set (ltb-false c.at (length set) t)) (ap (set-read.Read count) same)))
+      (λ t. rw (t, drop_of_length-le set (ltb-false c.at (length set) t)) (ap (counted count) same)))
 
   pub step_left : StepLeft ed set c done (step_answer true ed c set)
   unfolding step_answer
@@ -151,9 +147,9 @@ module _ (ed : Edition) (set : List ℕ) (all : Bytes set) (c : SetCursor) (done
 
 -- ---- the opening
 
-abbrev pub OpeningLeft : Edition → List ℕ → SetOpening → Type 0
-OpeningLeft ed set (opening.At c) = left_at ed set c 0 ≡ set_answer (read_set ed set)
-OpeningLeft ed set (opening.Refused f) = set-read.Refused f ≡ set_answer (read_set ed set)
+abbrev pub OpeningLeft : Edition → List ℕ → OpenAnswer → Type 0
+OpeningLeft ed set (code.Ok c) = left_at ed set c 0 ≡ set_answer (read_set ed set)
+OpeningLeft ed set (code.Err f) = code.Err f ≡ set_answer (read_set ed set)
 
 module _ (ed : Edition) (set : List ℕ) (all : Bytes set) where
   whole : (n : ℕ) (rest : List ℕ) → Bytes rest → left ed n 0 0 n rest ≡ set_answer (ended (many n (read_patch ed) rest))
@@ -164,7 +160,7 @@ module _ (ed : Edition) (set : List ℕ) (all : Bytes set) where
       go (read ps []) e =
           let one : n ≡ length ps = sym ((many_codec (patch_codec ed) n).only h ps [] e).0.1 in
           let two : 0 + (0 + operation_count_lem ps) ≡ operation_count_lem ps = omega arith in
-          ap₂ set-read.Read one two
+          ap₂ counted one two
       go (read ps (b ∷ rest)) e = refl
       go (refused f) e = refl
 
@@ -173,7 +169,7 @@ module _ (ed : Edition) (set : List ℕ) (all : Bytes set) where
   opening_left = test_cases (leb (length set) set_bytes) (λ t. rw t (go (read_heading ed set) refl (rw t (ap ended (patches_by_heading ed set))))) (λ t. rw t (rw t))
     where
       go : (r : Result ℕ) → read_heading ed set ≡ r → read_set ed set ≡ ended (onward (read_heading ed set) (λ n. many n (read_patch ed)))
-          → OpeningLeft ed set (answer (anywhere (λ n. n)) (λ count from. opening.At (first_cursor count from)) opening.Refused (length set) r)
+          → OpeningLeft ed set (made_of first_cursor (answer plain (length set) r))
       go (refused f) e is = sym (ap set_answer (is ∙ ap (λ r. ended (onward r (λ n. many n (read_patch ed)))) e))
       go (read n rest) e is =
           let here = suffix (heading_codec ed) set 0 all n rest e in

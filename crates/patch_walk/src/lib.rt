@@ -25,48 +25,40 @@ pub struct SetCursor {
     pub operations_left: usize,
 }
 
-#[derive(Drop)]
-pub enum SetOpening {
-    At(SetCursor),
-    Refused(ProjectionPatchReadFault),
-}
-
 // What stands at a cursor, and the cursor behind it. The place of an operation's text counts from the cursor's position.
-#[derive(Drop)]
+#[derive(Clone, Copy)]
 pub enum SetStep {
     Head(ProjectionPatch, SetCursor),
     Operation(ProjectionPatchOperation, SetCursor),
     End,
-    Refused(ProjectionPatchReadFault),
 }
 
-#[derive(Drop)]
-pub enum SetRead {
-    Read {
-        patch_count: usize,
-        operation_count: usize,
-    },
-    Refused(ProjectionPatchReadFault),
+// How many patches and operations a set has.
+#[derive(Clone, Copy)]
+pub struct SetCounts {
+    pub patch_count: usize,
+    pub operation_count: usize,
 }
 
 // Reads the heading of a set.
-pub fn open_set(set: &[u8], edition: ProjectionPatchEdition) -> SetOpening
+pub fn open_set(
+    set: &[u8],
+    edition: ProjectionPatchEdition,
+) -> Result<SetCursor, ProjectionPatchReadFault>
     ensures { result ≡ open_answer (edition_of edition) set.now }
 {
     if ProjectionPatchSet::BYTES < set.len() {
-        return SetOpening::Refused(ProjectionPatchReadFault::OverCapacity);
+        return Err(ProjectionPatchReadFault::OverCapacity);
     }
-    match patch_sets::read_heading(set, edition) {
-        Ok((count, at)) => SetOpening::At(SetCursor {
-            at,
-            patch_count: count,
-            patches_left: count,
-            patch_id: 0,
-            operation_count: 0,
-            operations_left: 0,
-        }),
-        Err(fault) => SetOpening::Refused(fault),
-    }
+    let (patch_count, at) = patch_sets::read_heading(set, edition)?;
+    Ok(SetCursor {
+        at,
+        patch_count,
+        patches_left: patch_count,
+        patch_id: 0,
+        operation_count: 0,
+        operations_left: 0,
+    })
 }
 
 // The operation at a cursor.
@@ -75,58 +67,42 @@ fn operation_step(
     cursor: SetCursor,
     strict: bool,
     edition: ProjectionPatchEdition,
-) -> SetStep
+) -> Result<SetStep, ProjectionPatchReadFault>
     requires { 0 < cursor.operations_left }
     ensures is { result ≡ operation_step strict (edition_of edition) cursor set.now }
     ensures within { StepWithin cursor (length set.now) result }
 {
-    let at = cursor.at;
-    if set.len() < at {
-        return SetStep::Refused(ProjectionPatchReadFault::Malformed);
-    }
-    match read_operations::operation_from(&set[at..], strict, edition) {
-        Ok((operation, taken)) => SetStep::Operation(
-            operation,
-            SetCursor {
-                at: at + taken,
-                patch_count: cursor.patch_count,
-                patches_left: cursor.patches_left,
-                patch_id: cursor.patch_id,
-                operation_count: cursor.operation_count,
-                operations_left: cursor.operations_left - 1,
-            },
-        ),
-        Err(fault) => SetStep::Refused(fault),
-    }
+    let rest = set
+        .get(cursor.at..)
+        .ok_or(ProjectionPatchReadFault::Malformed)?;
+    let (operation, taken) = read_operations::operation_from(rest, strict, edition)?;
+    let next = SetCursor {
+        at: cursor.at + taken,
+        operations_left: cursor.operations_left - 1,
+        ..cursor
+    };
+    Ok(SetStep::Operation(operation, next))
 }
 
 // The patch's head at a cursor.
-fn head_step(set: &[u8], cursor: SetCursor) -> SetStep
+fn head_step(set: &[u8], cursor: SetCursor) -> Result<SetStep, ProjectionPatchReadFault>
     requires { 0 < cursor.patches_left }
     ensures is { result ≡ head_step cursor set.now }
     ensures within { StepWithin cursor (length set.now) result }
 {
-    let at = cursor.at;
-    if set.len() < at {
-        return SetStep::Refused(ProjectionPatchReadFault::Malformed);
-    }
-    match patch_sets::read_patch_head(&set[at..]) {
-        Ok((head, taken)) => {
-            let envelope = head.envelope;
-            SetStep::Head(
-                head,
-                SetCursor {
-                    at: at + taken,
-                    patch_count: cursor.patch_count,
-                    patches_left: cursor.patches_left - 1,
-                    patch_id: envelope.patch_id.raw(),
-                    operation_count: head.operation_count,
-                    operations_left: head.operation_count,
-                },
-            )
-        }
-        Err(fault) => SetStep::Refused(fault),
-    }
+    let rest = set
+        .get(cursor.at..)
+        .ok_or(ProjectionPatchReadFault::Malformed)?;
+    let (head, taken) = patch_sets::read_patch_head(rest)?;
+    let next = SetCursor {
+        at: cursor.at + taken,
+        patches_left: cursor.patches_left - 1,
+        patch_id: head.envelope.patch_id.raw(),
+        operation_count: head.operation_count,
+        operations_left: head.operation_count,
+        ..cursor
+    };
+    Ok(SetStep::Head(head, next))
 }
 
 // What stands at a cursor. Texts are checked where the walk is strict.
@@ -135,7 +111,7 @@ pub fn next_step(
     cursor: SetCursor,
     strict: bool,
     edition: ProjectionPatchEdition,
-) -> SetStep
+) -> Result<SetStep, ProjectionPatchReadFault>
     ensures is { result ≡ step_answer strict (edition_of edition) cursor set.now }
     ensures within { StepWithin cursor (length set.now) result }
 {
@@ -145,30 +121,38 @@ pub fn next_step(
     if 0 < cursor.patches_left {
         return head_step(set, cursor);
     }
-    SetStep::End
+    Ok(SetStep::End)
 }
 
 // The answer behind the last step, in a set of so many bytes.
-fn set_end(bytes: usize, cursor: SetCursor, operations: usize) -> SetRead
+fn set_end(
+    bytes: usize,
+    cursor: SetCursor,
+    operations: usize,
+) -> Result<SetCounts, ProjectionPatchReadFault>
     ensures { result ≡ end_answer bytes cursor operations }
 {
     if cursor.at < bytes {
-        return SetRead::Refused(ProjectionPatchReadFault::Malformed);
+        return Err(ProjectionPatchReadFault::Malformed);
     }
-    SetRead::Read {
+    Ok(SetCounts {
         patch_count: cursor.patch_count,
         operation_count: operations,
-    }
+    })
 }
 
 // Reads what is left at a cursor, and counts its operations.
-fn read_steps(set: &[u8], first: SetCursor, edition: ProjectionPatchEdition) -> SetRead
+fn read_steps(
+    set: &[u8],
+    first: SetCursor,
+    edition: ProjectionPatchEdition,
+) -> Result<SetCounts, ProjectionPatchReadFault>
     ensures { result ≡ left_at (edition_of edition) set.now first 0 }
 {
     let mut cursor = first;
     let mut operations: usize = 0;
     loop {
-        match next_step(set, cursor, true, edition) {
+        match next_step(set, cursor, true, edition)? {
             SetStep::Head(_, next) => {
                 cursor = next;
             }
@@ -179,19 +163,16 @@ fn read_steps(set: &[u8], first: SetCursor, edition: ProjectionPatchEdition) -> 
             SetStep::End => {
                 return set_end(set.len(), cursor, operations);
             }
-            SetStep::Refused(fault) => {
-                return SetRead::Refused(fault);
-            }
         }
     }
 }
 
 // Reads a whole set: how many patches and operations it has.
-pub fn read_set(set: &[u8], edition: ProjectionPatchEdition) -> SetRead
+pub fn read_set(
+    set: &[u8],
+    edition: ProjectionPatchEdition,
+) -> Result<SetCounts, ProjectionPatchReadFault>
     ensures { result ≡ set_answer (read_set (edition_of edition) set.now) }
 {
-    match open_set(set, edition) {
-        SetOpening::At(first) => read_steps(set, first, edition),
-        SetOpening::Refused(fault) => SetRead::Refused(fault),
-    }
+    read_steps(set, open_set(set, edition)?, edition)
 }

@@ -1,32 +1,24 @@
 -- `patch_walk::head_step` meets its contract: the head reader's answer, told as a step.
-use Prim.Native.Nat.{ℕ, ◌+◌, ◌≤◌, ◌<◌}
-use mathlib.Core.Path.{ap, ◌∙◌}
-use native.Mathlib.Omega.{arith}
+use Prim.Native.Nat.{◌+◌, ◌≤◌, ◌<◌}
 use lib.ListN.{length}
+use Rattle.std.proofs.lemmas.Result.{err_from_is_err_and}
 use Rattle.spec_lists.proofs.BytesLaws.{bytes_of}
-use Rattle.patch_walk.specs.Steps.{after_head}
-use Rattle.patch_walk.specs.declared.SetStep.TheVariants as set-step
-use Rattle.patch_walk.proofs.Reading.{no_head_past, head_read_is, head_refused_is, head_on}
-use borrow.Author.Rules.{rules}
+use Rattle.projection_patch.proofs.At.{there, not_there}
+use Rattle.patch_walk.proofs.Reading.{nothing_lent, part_lent, no_head_past, head_on}
 use Rattle.patch_walk.proofs.head_step.Goals as goal
-use Rattle.patch_walk.proofs.head_step.Goals.{In-Read}
+use Rattle.patch_walk.proofs.head_step.Goals.{In_ok-head}
 
 -- the head ends within the set
-on : (c : In-Read) → (c.args.cursor.at < c.args.cursor.at + c.in-Read.taken) × (c.args.cursor.at + c.in-Read.taken ≤ length c.args.set.now)
+on : (c : In_ok-head) → (c.args.cursor.at < c.args.cursor.at + c.in_ok-head.taken) × (c.args.cursor.at + c.in_ok-head.taken ≤ length c.args.set.now)
 on c =
-    head_on c.args.set.now c.args.cursor c.read_patch_head.ensures (bytes_of c.args.set.now (λ j. (c.type_inv.set j).fits)) c.in-Read.head c.in-Read.taken c.in-Read.is (omega arith)
+    let p = part_lent c.args.set.now c.args.cursor.at c.get.result c.get.ensures.lookup.0 c.in_ok-rest.rest (there c.get.result c.in_ok-rest.rest c.in_ok-rest.ensures.value) in
+    head_on c.args.set.now c.args.cursor p.1 c.read_patch_head.ensures (bytes_of c.args.set.now (λ j. (c.type_inv.set j).fits)) c.in_ok-head.head c.in_ok-head.taken c.in_ok-head.was p.0
 
-pub returns-then-set-at : goal.returns-then-set-at
-returns-then-set-at c = record { is = no_head_past c.args.set.now c.args.cursor c.if-set-at.true; within = search rules }
+pub returns-in_err-rest-clause-is : goal.returns-in_err-rest-clause-is
+returns-in_err-rest-clause-is c =
+    let e = not_there c.get.result c.in_err-rest.field-0.0 c.in_err-rest.ensures.value in
+    let p = err_from_is_err_and c.from_residual.result c.from_residual.ensures.1 in
+    rw (p.1, p.2, ← e.1) (no_head_past c.args.set.now c.args.cursor (nothing_lent c.args.set.now c.args.cursor.at c.get.result c.get.ensures.lookup.0 e.0))
 
-pub overflow_add-result : goal.overflow_add-result
-overflow_add-result c = omega (arith, (on (goal.at.overflow_add-result c).In-Read).1)
-
-pub returns-in-Read : goal.returns-in-Read
-returns-in-Read c =
-    let next = after_head c.args.cursor c.in-Read.head c.in-Read.taken in
-    record { is = ap (λ (n : ℕ). set-step.Head c.in-Read.head (record { at = next.at; patch_count = next.patch_count; patches_left = next.patches_left; patch_id = n; operation_count = next.operation_count; operations_left = next.operations_left })) c.raw.ensures ∙ head_read_is c.args.set.now c.args.cursor c.read_patch_head.ensures c.in-Read.head c.in-Read.taken c.in-Read.is; within = on (goal.at.returns-in-Read c).In-Read }
-
-pub returns-in-Refused : goal.returns-in-Refused
-returns-in-Refused c =
-    record { is = head_refused_is c.args.set.now c.args.cursor c.read_patch_head.ensures c.in-Refused.fault c.in-Refused.is; within = search rules }
+pub returns-clause-within : goal.returns-clause-within
+returns-clause-within c = on (goal.at.returns-clause-within c).In_ok-head

@@ -1,16 +1,8 @@
-use Prim.Native.Nat.{ℕ, ◌-◌, ◌≤◌}
-use mathlib.Core.Path.{◌≡◌, refl, sym, ◌∙◌, subst}
-use mathlib.Core.List.{List}
-use native.Mathlib.Omega.{arith}
+use Prim.Native.Nat.{◌-◌, ◌≤◌}
+use mathlib.Core.Path.{◌≡◌}
 use lib.ListN.{length}
-use Rattle.spec_lists.proofs.BytesLaws.{bytes_of}
-use Rattle.spec_patch.specs.Edition.{Edition}
 use Rattle.projection_patch.specs.Meaning.{edition_of}
-use Rattle.patch_walk.specs.Steps.{StepWithin}
 use Rattle.patch_walk.specs.SetReads.{left_at}
-use Rattle.patch_walk.specs.SetReadsLaws.{StepLeft, step_left}
-use Rattle.patch_walk.specs.declared.SetStep.{SetStep}
-use borrow.Author.Rules.{rules}
 use Rattle.patch_walk.proofs.read_steps.Given as goal
 
 abbrev pub invariant-loop-next : goal.invariant-loop-next
