@@ -3,7 +3,7 @@ ghost use Rattle.std.specs.Prelude.{◌≡◌, length};
 
 use crate::sums;
 use active_projection_target_catalog::catalog::BindingPair;
-use patch_walk::SetRead;
+use patch_walk::SetCounts;
 use projection_patch::patch::{ProjectionPatchEdition, ProjectionPatchSet};
 use session_from_pairs::pairs::BindingAnchors;
 use session_gates::gates::OrderedProjectionPatchBatchEnvelope;
@@ -22,14 +22,16 @@ pub(crate) struct SetCounts {
 
 pub(crate) fn counted(set: &[u8]) -> SetCounts {
     match patch_walk::read_set(set, ProjectionPatchEdition::V1) {
-        SetRead::Read {
-            patch_count,
-            operation_count,
-        } => SetCounts {
+        Ok(
+            SetCounts {
+                patch_count,
+                operation_count,
+            },
+        ) => SetCounts {
             patches: patch_count as u64,
             operations: operation_count as u64,
         },
-        SetRead::Refused(_) => SetCounts {
+        Err(_) => SetCounts {
             patches: 0,
             operations: 0,
         },

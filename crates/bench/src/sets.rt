@@ -3,7 +3,7 @@ use check_quick::quick_set;
 use check_quick::quick_set::QuickCheck;
 use check_set::check_set as set_check;
 use check_set::check_set::PatchSetCheck;
-use patch_walk::SetRead;
+use patch_walk::SetCounts;
 use projection_patch::patch::ProjectionPatchEdition;
 
 // The surface of the first patch, which no rule looks at; a new one for each use keeps the uses apart.
@@ -15,11 +15,13 @@ const LENT: usize = 48;
 // The number of operations, or the refusal's number.
 fn read(set: &[u8]) -> u64 {
     match patch_walk::read_set(set, ProjectionPatchEdition::V1) {
-        SetRead::Read {
-            patch_count: _,
-            operation_count,
-        } => operation_count as u64,
-        SetRead::Refused(fault) => fault.number(),
+        Ok(
+            SetCounts {
+                patch_count: _,
+                operation_count,
+            },
+        ) => operation_count as u64,
+        Err(fault) => fault.number(),
     }
 }
 

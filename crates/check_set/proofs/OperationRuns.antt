@@ -1,4 +1,5 @@
 -- The findings of a patch's operations, listed one after the other: what is left makes of the table what the whole makes of the first.
+use Rattle.std.specs.Prelude as code
 use Prim.Native.Nat.{ℕ, ◌+◌, ◌≤◌}
 use mathlib.Core.Path.{◌≡◌, refl, sym, ap, ap₂, ◌∙◌}
 use mathlib.Core.Bool.{Bool, false}
@@ -15,7 +16,7 @@ use Rattle.projection_patch.specs.declared.patch.ProjectionPatchOperation.{Proje
 use Rattle.patch_walk.specs.Steps.{step_answer, AtSteps}
 use Rattle.patch_walk.proofs.StepsLaws.{Visited, visited}
 use Rattle.patch_walk.specs.declared.SetCursor.{SetCursor}
-use Rattle.patch_walk.specs.declared.SetStep.{SetStep}
+use Rattle.patch_walk.specs.Steps.{StepAnswer}
 use Rattle.patch_walk.specs.declared.SetStep.TheVariants as set-step
 use Rattle.check_targets.specs.Targets.{target_numbers, target_seen, with_target}
 use Rattle.check_targets.specs.TargetsLaws.{targets_snoc, with_target_front}
@@ -44,7 +45,7 @@ module _ (ed : Edition) (set : List ℕ) (id : ℕ) (os : List Operation) (ps : 
 
   module _ {c : SetCursor} {used index kept : ℕ} {targets records : List ℕ} (run : OperationRun c used index kept targets records) where
     -- one operation more
-    module _ {r : SetStep} (answer_is : r ≡ step_answer false ed c set) (x : ProjectionPatchOperation) (d : SetCursor) (told : r ≡ set-step.Operation x d)
+    module _ {r : StepAnswer} (answer_is : r ≡ step_answer false ed c set) (x : ProjectionPatchOperation) (d : SetCursor) (told : r ≡ code.Ok (set-step.Operation x d))
         (kept' : ℕ) (targets' records' : List ℕ) (target : MutationTarget) (self seen : Bool) (room : used + 3 ≤ length targets)
         (target-now : target ≡ mutation_target (operation_of [] x))
         (self-now : self ≡ before_self_lem (operation_of [] x))

@@ -1,4 +1,5 @@
 -- The findings of a set's patches, listed one after the other, up to the first patch that has any.
+use Rattle.std.specs.Prelude as code
 use Prim.Native.Nat.{ℕ, suc, ◌+◌, ◌*◌, ◌≤◌, ◌<◌}
 use mathlib.Core.Path.{◌≡◌, refl, sym, ap, ap₂, ◌∙◌, subst}
 use mathlib.Core.Bool.{false}
@@ -25,7 +26,7 @@ use Rattle.patch_sets.specs.SetAnswers.{head_to}
 use Rattle.patch_walk.specs.Steps.{step_answer, AtSteps}
 use Rattle.patch_walk.proofs.StepsLaws.{Opened, opened}
 use Rattle.patch_walk.specs.declared.SetCursor.{SetCursor}
-use Rattle.patch_walk.specs.declared.SetStep.{SetStep}
+use Rattle.patch_walk.specs.Steps.{StepAnswer}
 use Rattle.patch_walk.specs.declared.SetStep.TheVariants as set-step
 use Rattle.check_targets.specs.ToldLaws.{envelope_back}
 use Rattle.check_table.specs.FindingTable.{KeptFindings}
@@ -73,7 +74,7 @@ module _ (ed : Edition) (bytes : List ℕ) (ps : List Patch) where
         go (p ∷ l) here place all = absurd (omega (arith, here.patches))
 
     -- one patch more
-    module _ (few : length ps ≤ set_patches) (room : table_length ≤ length records) {r : SetStep} (answer_is : r ≡ step_answer false ed c bytes) (h : ProjectionPatch) (d : SetCursor) (told : r ≡ set-step.Head h d)
+    module _ (few : length ps ≤ set_patches) (room : table_length ≤ length records) {r : StepAnswer} (answer_is : r ≡ step_answer false ed c bytes) (h : ProjectionPatch) (d : SetCursor) (told : r ≡ code.Ok (set-step.Head h d))
         (listed : Listed) (mid : List ℕ)
         (ensured : (p : Patch) (qs : List Patch) → h ≡ head_to (head_of p) → d.patch_id ≡ p.envelope.id → AtSteps ed bytes d p.operations qs → ListedAs ed bytes (raw_patch_findings p) 0 records listed mid qs) where
       o : Opened ed bytes c [] run.rest h d

@@ -11,7 +11,6 @@ use crate::list_set::FindingsListed;
 use crate::{list_set, write_findings};
 use check_quick::quick_set;
 use check_quick::quick_set::QuickCheck;
-use patch_walk::SetOpening;
 use projection_patch::patch::ProjectionPatchEdition;
 use projection_patch::read_values::ProjectionPatchReadFault;
 
@@ -58,13 +57,13 @@ fn find(set: &[u8], edition: ProjectionPatchEdition, out: &mut [u64]) -> PatchSe
 {
     let mut records = [0u64; FindingsListed::NUMBERS];
     match patch_walk::open_set(set, edition) {
-        SetOpening::At(start) => match list_set::list_patches(set, edition, start, &mut records) {
+        Ok(start) => match list_set::list_patches(set, edition, start, &mut records) {
             FindingsListed::Patch(index, logical) => {
                 write_answer(CheckPlace::Patch(index), logical, &records, out)
             }
             FindingsListed::Set(logical) => write_answer(CheckPlace::Set, logical, &records, out),
         },
-        SetOpening::Refused(fault) => PatchSetCheck::Refused(fault),
+        Err(fault) => PatchSetCheck::Refused(fault),
     }
 }
 

@@ -61,8 +61,9 @@ pub fn list_operations(
     let mut index: u64 = 0;
     let mut kept = first;
     while 0 < cursor.operations_left {
-        let SetStep::Operation(operation, next) = patch_walk::next_step(set, cursor, false, edition)
-        else {
+        let Ok(SetStep::Operation(operation, next)) = patch_walk::next_step(
+            set, cursor, false, edition,
+        ) else {
             return Listed {
                 count: kept,
                 next: cursor,

@@ -89,7 +89,8 @@ pub fn list_patches(
     let mut done: usize = 0;
     let mut kept: usize = 0;
     while 0 < cursor.patches_left {
-        let SetStep::Head(head, inside) = patch_walk::next_step(set, cursor, false, edition) else {
+        let Ok(SetStep::Head(head, inside)) = patch_walk::next_step(set, cursor, false, edition)
+        else {
             return FindingsListed::Set(kept);
         };
         let patch = list_patch::list_patch(set, edition, head, inside, records);

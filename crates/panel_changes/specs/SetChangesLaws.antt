@@ -1,17 +1,17 @@
 -- Tables that store a projection are as long as they should be, a plan of it starts from them, and what is written of a plan stores what the
 -- plan stands for.
+use Rattle.std.specs.Prelude as code
 use Rattle.std.specs.Prelude.{ℕ, ◌+◌, ◌-◌, ◌*◌, ◌≤◌, ◌≡◌, refl, Bool, true, false, ◌&&◌, List, [], ◌∷◌, ◌++◌, map, leb, eqb, length, take, drop, if◌then◌else◌}
 use Rattle.std.proofs.Common.{sym, ap, ap₂, ◌∙◌, subst, map-id, zero-mul, mul-le-mul_right, arith, le-leb, leb-true, eq-eqb, eqb-true, take-append-drop, length-take-le}
 use Rattle.std.proofs.lemmas.List.{length-map, length-replicate}
 use Rattle.spec_lists.proofs.ListLaws.{and_left, and_right}
 use Rattle.spec_patch.specs.Sizes.{set_bytes, projection_bindings, projection_availabilities, projection_entries}
 use Rattle.spec_patch.specs.Edition.{Edition}
-use Rattle.projection_patch.specs.ReadAnswers.{answer, anywhere}
+use Rattle.projection_patch.specs.ReadAnswers.{count_answer}
 use Rattle.projection_patch.specs.declared.read_values.ProjectionPatchReadFault.TheVariants.{OverCapacity}
 use Rattle.patch_sets.specs.Walk.{read_heading}
-use Rattle.patch_walk.specs.Steps.{first_cursor, open_answer}
+use Rattle.patch_walk.specs.Steps.{made_of, first_cursor, open_answer}
 use Rattle.patch_walk.specs.declared.SetCursor.{SetCursor}
-use Rattle.patch_walk.specs.declared.SetOpening.TheVariants as opening
 use Rattle.spec_lists.specs.Order.{sort_unique}
 use Rattle.spec_lists.proofs.OrderLaws.{sort_unique_length}
 use Rattle.spec_projection.specs.Projection.{Entry, Projection}
@@ -179,10 +179,10 @@ fit_arguments x y z w e t =
     (and_left x (y && (z && w)) h, (and_left y (z && w) rest, (and_left z w last, and_right z w last)))
 
 -- a set that is opened is not too long
-pub opened_short : (ed : Edition) (set : List ℕ) (c : SetCursor) → open_answer ed set ≡ opening.At c → length set ≤ set_bytes
+pub opened_short : (ed : Edition) (set : List ℕ) (c : SetCursor) → open_answer ed set ≡ code.Ok c → length set ≤ set_bytes
 opened_short ed set c e = go (leb (length set) set_bytes) refl e
   where
-    go : (t : Bool) → leb (length set) set_bytes ≡ t → (if t then answer (anywhere (λ n. n)) (λ count from. opening.At (first_cursor count from)) opening.Refused (length set) (read_heading ed set) else opening.Refused OverCapacity) ≡ opening.At c → length set ≤ set_bytes
+    go : (t : Bool) → leb (length set) set_bytes ≡ t → (if t then made_of first_cursor (count_answer (length set) (read_heading ed set)) else code.Err OverCapacity) ≡ code.Ok c → length set ≤ set_bytes
     go true is e = leb-true (length set) set_bytes is
     go false is e = absurd (let z : ◌≡◌ {A = ℕ} 0 1 = cc e in omega arith)
 

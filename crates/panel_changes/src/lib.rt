@@ -27,7 +27,7 @@ use local_projection_state::{
 use panel_lengths::write;
 use panel_plan::fill;
 use panel_steps::PlanRun;
-use patch_walk::{SetCursor, SetOpening};
+use patch_walk::SetCursor;
 use projection_patch::patch::ProjectionPatchEdition;
 use projection_patch::read_values::ProjectionPatchReadFault;
 
@@ -301,7 +301,7 @@ pub fn apply_set_with_plan<'a>(
         used,
     ) {
         match patch_walk::open_set(set, edition) {
-            SetOpening::At(cursor) => apply_from(
+            Ok(cursor) => apply_from(
                 from_bindings,
                 from_availability,
                 from_entries,
@@ -318,7 +318,7 @@ pub fn apply_set_with_plan<'a>(
                 plan_availability,
                 plan_entries,
             ),
-            SetOpening::Refused(fault) => SetChange::Unreadable(fault),
+            Err(fault) => SetChange::Unreadable(fault),
         }
     } else {
         SetChange::BadTables

@@ -1,4 +1,5 @@
 -- A run over a set, one step at a time: what is left, from the projection that the plan stands for now, gives what the whole gives.
+use Rattle.std.specs.Prelude as code
 use Prim.Native.Nat.{ℕ, ◌+◌, ◌-◌, ◌≤◌, ◌<◌}
 use mathlib.Core.Logic.{◌≢◌, inl, inr}
 use mathlib.Core.Bool.{false}
@@ -30,7 +31,7 @@ use Rattle.projection_patch.specs.declared.patch.ProjectionPatchOperation.TheVar
 use Rattle.patch_walk.specs.Steps.{step_answer, StepWithin, AtSteps}
 use Rattle.patch_walk.proofs.StepsLaws.{Visited, Opened, visited, opened, done as all_done, never_refused}
 use Rattle.patch_walk.specs.declared.SetCursor.{SetCursor}
-use Rattle.patch_walk.specs.declared.SetStep.{SetStep}
+use Rattle.patch_walk.specs.Steps.{StepAnswer}
 use Rattle.patch_walk.specs.declared.SetStep.TheVariants as set-step
 use Rattle.local_projection_state.specs.declared.ProjectionCounts.{ProjectionCounts}
 use Rattle.panel_plan.specs.Resolved.{Resolution, resolved, resolved_outcome}
@@ -75,35 +76,35 @@ offset_small (move c k before) = omega arith
 
 -- ---- where a step ends
 
-pub operation_within : (c : SetCursor) (size : ℕ) {r : SetStep} (x : ProjectionPatchOperation) (d : SetCursor) → r ≡ set-step.Operation x d → StepWithin c size r → (c.at < d.at) × (d.at ≤ size)
+pub operation_within : (c : SetCursor) (size : ℕ) {r : StepAnswer} (x : ProjectionPatchOperation) (d : SetCursor) → r ≡ code.Ok (set-step.Operation x d) → StepWithin c size r → (c.at < d.at) × (d.at ≤ size)
 operation_within c size x d is h = subst (StepWithin c size) is h
 
-pub head_within : (c : SetCursor) (size : ℕ) {r : SetStep} (x : ProjectionPatch) (d : SetCursor) → r ≡ set-step.Head x d → StepWithin c size r → (c.at < d.at) × (d.at ≤ size)
+pub head_within : (c : SetCursor) (size : ℕ) {r : StepAnswer} (x : ProjectionPatch) (d : SetCursor) → r ≡ code.Ok (set-step.Head x d) → StepWithin c size r → (c.at < d.at) × (d.at ≤ size)
 head_within c size x d is h = subst (StepWithin c size) is h
 
 -- a step that was told as a head
-pub record HeadAt (s : SetStep) (d : SetCursor) : Type 0 where
+pub record HeadAt (s : StepAnswer) (d : SetCursor) : Type 0 where
   pub head : ProjectionPatch
-  pub is : s ≡ set-step.Head head d
+  pub is : s ≡ code.Ok (set-step.Head head d)
 
-pub opened_step : (n : ProjectionCounts) (s : SetStep) (d : SetCursor) → head_step.Opened d ≡ run_head n s → HeadAt s d
-opened_step n (set-step.Head h x) d e = let same : x ≡ d = cc in record { head = h; is = ap (set-step.Head h) same }
-opened_step n (set-step.Operation x f) d e = absurd (let z : ◌≡◌ {A = ℕ} 0 1 = cc in omega arith)
-opened_step n set-step.End d e = absurd (let z : ◌≡◌ {A = ℕ} 0 1 = cc in omega arith)
-opened_step n (set-step.Refused f) d e = absurd (let z : ◌≡◌ {A = ℕ} 0 1 = cc in omega arith)
+pub opened_step : (n : ProjectionCounts) (s : StepAnswer) (d : SetCursor) → head_step.Opened d ≡ run_head n s → HeadAt s d
+opened_step n (code.Ok (set-step.Head h x)) d e = let same : x ≡ d = cc in record { head = h; is = ap (λ (y : SetCursor). code.Ok (set-step.Head h y)) same }
+opened_step n (code.Ok (set-step.Operation x f)) d e = absurd (let z : ◌≡◌ {A = ℕ} 0 1 = cc in omega arith)
+opened_step n (code.Ok set-step.End) d e = absurd (let z : ◌≡◌ {A = ℕ} 0 1 = cc in omega arith)
+opened_step n (code.Err f) d e = absurd (let z : ◌≡◌ {A = ℕ} 0 1 = cc in omega arith)
 
-pub opened_within : (c : SetCursor) (size : ℕ) (n : ProjectionCounts) (s : SetStep) (d : SetCursor) → head_step.Opened d ≡ run_head n s → StepWithin c size s → (c.at < d.at) × (d.at ≤ size)
+pub opened_within : (c : SetCursor) (size : ℕ) (n : ProjectionCounts) (s : StepAnswer) (d : SetCursor) → head_step.Opened d ≡ run_head n s → StepWithin c size s → (c.at < d.at) × (d.at ≤ size)
 opened_within c size n s d e h = let x = opened_step n s d e in head_within c size x.head d x.is h
 
 -- where operations are left one stands there
 module _ {ed : Edition} {set : List ℕ} {c : SetCursor} {os : List Operation} {ps : List Patch} (here : AtSteps ed set c os ps) where
-  pub some_operation : c.operations_left ≢ 0 → (s : SetStep) → s ≡ step_answer false ed c set → OneOf (0 ∷ 2 ∷ 3 ∷ []) (tag_of set-steps.the_type s) → ⊥
-  some_operation left (set-step.Head h d) is k = left (sym here.operations ∙ ap length (opened false ed set c here is h d refl).none)
-  some_operation left (set-step.Operation x d) is (inl e) = absurd (omega arith)
-  some_operation left (set-step.Operation x d) is (inr (inl e)) = absurd (omega arith)
-  some_operation left (set-step.Operation x d) is (inr (inr e)) = absurd (omega arith)
-  some_operation left set-step.End is k = left (sym here.operations ∙ ap length (all_done false ed set c here is refl).0)
-  some_operation left (set-step.Refused f) is k = never_refused false ed set c here is f refl
+  pub some_operation : c.operations_left ≢ 0 → (s : StepAnswer) → s ≡ step_answer false ed c set → OneOf (0 ∷ 2 ∷ 3 ∷ []) (tag_of set-steps.the_type s) → ⊥
+  some_operation left (code.Ok (set-step.Head h d)) is k = left (sym here.operations ∙ ap length (opened false ed set c here is h d refl).none)
+  some_operation left (code.Ok (set-step.Operation x d)) is (inl e) = absurd (omega arith)
+  some_operation left (code.Ok (set-step.Operation x d)) is (inr (inl e)) = absurd (omega arith)
+  some_operation left (code.Ok (set-step.Operation x d)) is (inr (inr e)) = absurd (omega arith)
+  some_operation left (code.Ok set-step.End) is k = left (sym here.operations ∙ ap length (all_done false ed set c here is refl).0)
+  some_operation left (code.Err f) is k = never_refused false ed set c here is f refl
 
 -- ---- a run
 
@@ -185,11 +186,11 @@ module _ {ed : Edition} {p : Projection} {set : List ℕ} where
     pub run_ended : c.operations_left ≡ 0 → {r : PlanRun} → head_step.Ended r ≡ run_head n (step_answer false ed c set) → RunTold ed p all set b a e r
     run_ended all-passed {r} told = go (step_answer false ed c set) refl told
       where
-        go : (s : SetStep) → s ≡ step_answer false ed c set → head_step.Ended r ≡ run_head n s → RunTold ed p all set b a e r
-        go (set-step.Head h d) is t = absurd (let z : ◌≡◌ {A = ℕ} 0 1 = cc in omega arith)
-        go (set-step.Operation x d) is t = let v = visited false ed set c run.walk.here is x d refl in absurd (omega (arith, all-passed, run.walk.here.operations, ap length v.is))
-        go set-step.End is t = let same : Planned n ≡ r = cc in subst (RunTold ed p all set b a e) same (run_end (all_done false ed set c run.walk.here is refl))
-        go (set-step.Refused f) is t = absurd (never_refused false ed set c run.walk.here is f refl)
+        go : (s : StepAnswer) → s ≡ step_answer false ed c set → head_step.Ended r ≡ run_head n s → RunTold ed p all set b a e r
+        go (code.Ok (set-step.Head h d)) is t = absurd (let z : ◌≡◌ {A = ℕ} 0 1 = cc in omega arith)
+        go (code.Ok (set-step.Operation x d)) is t = let v = visited false ed set c run.walk.here is x d refl in absurd (omega (arith, all-passed, run.walk.here.operations, ap length v.is))
+        go (code.Ok set-step.End) is t = let same : Planned n ≡ r = cc in subst (RunTold ed p all set b a e) same (run_end (all_done false ed set c run.walk.here is refl))
+        go (code.Err f) is t = absurd (never_refused false ed set c run.walk.here is f refl)
 
     -- ---- an operation
 

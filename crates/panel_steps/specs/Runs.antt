@@ -1,4 +1,5 @@
 -- What a run over a set answers, and the plan that it leaves.
+use Rattle.std.specs.Prelude as code
 use Rattle.std.specs.Prelude.{ℕ, ◌-◌, ◌≡◌, List, ◌∷◌, length}
 use Rattle.spec_patch.specs.Edition.{Edition}
 use Rattle.spec_patch.specs.Patch.{Operation, Patch}
@@ -16,7 +17,7 @@ use Rattle.local_projection_state.specs.Faults.{application_fault_of}
 use Rattle.projection_patch.specs.declared.read_values.ProjectionPatchReadFault.TheVariants.{Malformed}
 use Rattle.patch_walk.specs.Steps.{AtSteps}
 use Rattle.patch_walk.specs.declared.SetCursor.{SetCursor}
-use Rattle.patch_walk.specs.declared.SetStep.{SetStep}
+use Rattle.patch_walk.specs.Steps.{StepAnswer}
 use Rattle.patch_walk.specs.declared.SetStep.TheVariants as set-step
 use Rattle.panel_steps.specs.declared.HeadStep.{HeadStep}
 use Rattle.panel_steps.specs.declared.HeadStep.TheVariants as head_step
@@ -59,11 +60,11 @@ pub record HaltsAt (ed : Edition) (set : List ℕ) (count : ℕ) (c : SetCursor)
   pub operation : h.operation ≡ operation_index c
 
 -- what a step is to a walk that expects a patch's head or the end, with so many rows held
-abbrev pub run_head : ProjectionCounts → SetStep → HeadStep
-run_head held (set-step.Head h d) = head_step.Opened d
-run_head held (set-step.Operation x d) = head_step.Ended (Unreadable Malformed)
-run_head held set-step.End = head_step.Ended (Planned held)
-run_head held (set-step.Refused f) = head_step.Ended (Unreadable f)
+abbrev pub run_head : ProjectionCounts → StepAnswer → HeadStep
+run_head held (code.Ok (set-step.Head h d)) = head_step.Opened d
+run_head held (code.Ok (set-step.Operation x d)) = head_step.Ended (Unreadable Malformed)
+run_head held (code.Ok set-step.End) = head_step.Ended (Planned held)
+run_head held (code.Err f) = head_step.Ended (Unreadable f)
 
 -- tables that store a plan of the projection x, for a batch on p: its sources stand for values, and resolving them gives x
 pub record PlannedAs (ed : Edition) (p : Projection) (set b a e : List ℕ) (n : ProjectionCounts) (x : Projection) : Type 0 where

@@ -67,12 +67,12 @@ fn next_head(
     ensures within { StepWithin cursor (length set.now) (step_answer false (edition_of edition) cursor set.now) }
 {
     match patch_walk::next_step(set, cursor, false, edition) {
-        SetStep::Head(_, next) => HeadStep::Opened(next),
-        SetStep::Operation(_, _) => {
+        Ok(SetStep::Head(_, next)) => HeadStep::Opened(next),
+        Ok(SetStep::Operation(_, _)) => {
             HeadStep::Ended(PlanRun::Unreadable(ProjectionPatchReadFault::Malformed))
         }
-        SetStep::End => HeadStep::Ended(PlanRun::Planned(held)),
-        SetStep::Refused(fault) => HeadStep::Ended(PlanRun::Unreadable(fault)),
+        Ok(SetStep::End) => HeadStep::Ended(PlanRun::Planned(held)),
+        Err(fault) => HeadStep::Ended(PlanRun::Unreadable(fault)),
     }
 }
 
@@ -105,7 +105,7 @@ pub fn plan_steps(
             }
         } else {
             let step = patch_walk::next_step(set, cursor, false, edition);
-            let SetStep::Operation(operation, next) = step else {
+            let Ok(SetStep::Operation(operation, next)) = step else {
                 return PlanRun::Unreadable(ProjectionPatchReadFault::Malformed);
             };
             let at = cursor.at + value_offset(operation);

@@ -1,4 +1,5 @@
 -- What a conversion is, by what reading the set, the kinds of its values and the room for it say; and what was written is read back.
+use Rattle.std.specs.Prelude as code
 use Rattle.std.specs.Prelude.{ℕ, ◌+◌, ◌≤◌, ◌<◌, ◌≡◌, refl, true, List, ◌∷◌, ◌++◌, length, take, drop, Result, Ok, Err}
 use Rattle.std.proofs.Common.{sym, ◌∙◌, arith, length-append, length-drop, take_at, length-take-le}
 use Rattle.std.proofs.Math.Path.{ap}
@@ -20,7 +21,7 @@ use Rattle.projection_patch.specs.ReadAnswers.{fault_of}
 use Rattle.projection_patch.specs.declared.read_values.ProjectionPatchReadFault.{ProjectionPatchReadFault}
 use Rattle.projection_patch.specs.declared.read_values.ProjectionPatchReadFault.TheVariants.{Malformed, OverCapacity}
 use Rattle.patch_walk.specs.SetReads.{set_answer}
-use Rattle.patch_walk.specs.declared.SetRead.TheVariants as set-read
+use Rattle.patch_walk.specs.SetReads.{counted}
 use Rattle.patch_converter.specs.declared.ConversionRefusal.{ConversionRefusal}
 use Rattle.patch_converter.specs.Answers.{conversion_refusal_to, conversion_answer, conversion_output}
 
@@ -30,21 +31,21 @@ module _ (from : Edition) (set : List ℕ) where
     pub list : List Patch
     pub reads : read_set from set ≡ patches list
 
-  pub set_readable : (m n : ℕ) → set_answer (read_set from set) ≡ set-read.Read m n → Readable
+  pub set_readable : (m n : ℕ) → set_answer (read_set from set) ≡ counted m n → Readable
   set_readable m n e = go (read_set from set) refl e
     where
-      go : (r : SetReading) → read_set from set ≡ r → set_answer r ≡ set-read.Read m n → Readable
+      go : (r : SetReading) → read_set from set ≡ r → set_answer r ≡ counted m n → Readable
       go (patches ps) r e = record { list = ps; reads = r }
       go (fault f) r e = absurd (let z : ◌≡◌ {A = ℕ} 0 1 = cc in omega arith)
 
   -- one that is not
-  pub set_not_read : (f : ProjectionPatchReadFault) → set_answer (read_set from set) ≡ set-read.Refused f → read_set from set ≡ fault (fault_of f)
+  pub set_not_read : (f : ProjectionPatchReadFault) → set_answer (read_set from set) ≡ code.Err f → read_set from set ≡ fault (fault_of f)
   set_not_read f e = go (read_set from set) refl e
     where
-      told : (g : ProjectionPatchReadFault) → set-read.Refused g ≡ set-read.Refused f → fault_of g ≡ fault_of f
+      told : (g : ProjectionPatchReadFault) → code.Err g ≡ code.Err f → fault_of g ≡ fault_of f
       told g e = let is : g ≡ f = cc in ap fault_of is
 
-      go : (r : SetReading) → read_set from set ≡ r → set_answer r ≡ set-read.Refused f → read_set from set ≡ fault (fault_of f)
+      go : (r : SetReading) → read_set from set ≡ r → set_answer r ≡ code.Err f → read_set from set ≡ fault (fault_of f)
       go (patches ps) r e = absurd (let z : ◌≡◌ {A = ℕ} 0 1 = cc in omega arith)
       go (fault malformed) r e = r ∙ ap fault (told Malformed e)
       go (fault over_capacity) r e = r ∙ ap fault (told OverCapacity e)

@@ -7,7 +7,7 @@ ghost use Rattle.spec_conversion.specs.Conversion.{kind_in, all_kinds};
 ghost use Rattle.projection_patch.specs.Meaning.{edition_of, value_of, operation_of};
 ghost use Rattle.patch_walk.specs.Steps.{AtSteps};
 
-use patch_walk::{SetCursor, SetOpening, SetStep};
+use patch_walk::{SetCursor, SetStep};
 use projection_patch::patch::{
     ProjectionPatchEdition, ProjectionPatchOperation, ProjectionPatchValue,
 };
@@ -69,19 +69,19 @@ fn has_kinds_left(
     let mut cursor = first;
     loop {
         match patch_walk::next_step(set, cursor, false, from) {
-            SetStep::Head(_, next) => {
+            Ok(SetStep::Head(_, next)) => {
                 cursor = next;
             }
-            SetStep::Operation(operation, next) => {
+            Ok(SetStep::Operation(operation, next)) => {
                 if !has_kind_of(operation, to) {
                     return false;
                 }
                 cursor = next;
             }
-            SetStep::End => {
+            Ok(SetStep::End) => {
                 return true;
             }
-            SetStep::Refused(_) => {
+            Err(_) => {
                 return false;
             }
         }
@@ -96,7 +96,7 @@ pub fn has_every_kind(set: &[u8], from: ProjectionPatchEdition, to: ProjectionPa
         return true;
     }
     match patch_walk::open_set(set, from) {
-        SetOpening::At(cursor) => has_kinds_left(set, cursor, from, to),
-        SetOpening::Refused(_) => false,
+        Ok(cursor) => has_kinds_left(set, cursor, from, to),
+        Err(_) => false,
     }
 }

@@ -11,7 +11,7 @@ ghost use Rattle.patch_converter.specs.Answers.{conversion_refusal_of, unread_to
 
 use crate::kinds::has_every_kind;
 use patch_part_writer::head::{DIGIT_AT, edition_digit};
-use patch_walk::SetRead;
+use patch_walk::SetCounts;
 use projection_patch::patch::ProjectionPatchEdition;
 use projection_patch::read_values::ProjectionPatchReadFault;
 
@@ -74,17 +74,23 @@ fn store_with_letter(set: &[u8], to: ProjectionPatchEdition, out: &mut [u8])
 // Converts a set of an edition into the other, from the start of the output on: reading's 12 and 10, then 18 for a score on the way to an
 // edition without scores, then 14. A refusal leaves every byte of the output as it was, and what is behind the set stays. What was written is
 // read in the other edition as the set is read in its own.
-pub fn convert(set: &[u8], from: ProjectionPatchEdition, out: &mut [u8]) -> Result<usize, ConversionRefusal>
+pub fn convert(
+    set: &[u8],
+    from: ProjectionPatchEdition,
+    out: &mut [u8],
+) -> Result<usize, ConversionRefusal>
     ensures value { result ≡ conversion_answer (convert (edition_of from) set.now (length out.old)) }
     ensures out_after { out.new ≡ conversion_output out.old (convert (edition_of from) set.now (length out.old)) }
     ensures by_index { (n : ℕ) → result ≡ Ok n → read_set (other_edition (edition_of from)) (take n out.new) ≡ read_set (edition_of from) set.now }
 {
     match patch_walk::read_set(set, from) {
-        SetRead::Refused(fault) => Err(ConversionRefusal::from(fault)),
-        SetRead::Read {
-            patch_count: _,
-            operation_count: _,
-        } => {
+        Err(fault) => Err(ConversionRefusal::from(fault)),
+        Ok(
+            SetCounts {
+                patch_count: _,
+                operation_count: _,
+            },
+        ) => {
             let to = other_edition(from);
             if !has_every_kind(set, from, to) {
                 return Err(ConversionRefusal::KindMissing);

@@ -22,7 +22,7 @@ use bytes_records::moves;
 use local_projection_state::{LocalProjectionState, ProjectionCounts};
 use panel_plan::fill;
 use panel_steps::PlanRun;
-use patch_walk::{SetCursor, SetOpening, SetStep};
+use patch_walk::{SetCursor, SetStep};
 use projection_patch::patch::ProjectionPatchEdition;
 use projection_patch::read_values::ProjectionPatchReadFault;
 
@@ -49,7 +49,7 @@ fn refused_at(
         → result ≡ reason_refused_to (halted h) }
 {
     let step = patch_walk::next_step(set, cursor, false, edition);
-    let SetStep::Operation(operation, _) = step else {
+    let Ok(SetStep::Operation(operation, _)) = step else {
         return Err(ProjectionPatchReadFault::Malformed);
     };
     let rule = rules::rule_of(entries, count, operation);
@@ -108,7 +108,7 @@ pub fn first_refused(
     moves::copy(availability, &mut plan_availability);
     fill::plan_entries(entries, counts.entries, &mut plan_entries);
     match patch_walk::open_set(set, edition) {
-        SetOpening::At(start) => refused_from(
+        Ok(start) => refused_from(
             &mut plan_bindings,
             &mut plan_availability,
             &mut plan_entries,
@@ -117,7 +117,7 @@ pub fn first_refused(
             edition,
             start,
         ),
-        SetOpening::Refused(fault) => Err(fault),
+        Err(fault) => Err(fault),
     }
 }
 

@@ -12,7 +12,7 @@ ghost use Rattle.session_explain.specs.Unknown.{unknown_to};
 
 use check_quick::anchors;
 use check_targets;
-use patch_walk::{SetCursor, SetOpening, SetStep};
+use patch_walk::{SetCursor, SetStep};
 use projection_patch::patch::{ProjectionPatchEdition, ProjectionPatchOperation};
 use projection_patch::read_values::ProjectionPatchReadFault;
 
@@ -47,13 +47,13 @@ fn unknown_from(
     let mut index: usize = 0;
     loop {
         match patch_walk::next_step(set, cursor, false, edition) {
-            SetStep::Head(_, next) => {
+            Ok(SetStep::Head(_, next)) => {
                 patch = opened;
                 opened = opened + 1;
                 index = 0;
                 cursor = next;
             }
-            SetStep::Operation(operation, next) => {
+            Ok(SetStep::Operation(operation, next)) => {
                 if target_known(nodes, bindings, collections, operation) {
                     index = index + 1;
                     cursor = next;
@@ -61,10 +61,10 @@ fn unknown_from(
                     return Ok(Some((patch, index)));
                 }
             }
-            SetStep::End => {
+            Ok(SetStep::End) => {
                 return Ok(None);
             }
-            SetStep::Refused(fault) => {
+            Err(fault) => {
                 return Err(fault);
             }
         }
@@ -83,7 +83,7 @@ pub fn first_unknown(
         → result ≡ unknown_to (walk_patches (tested (target_known c)) 0 tt ps) }
 {
     match patch_walk::open_set(set, edition) {
-        SetOpening::At(start) => unknown_from(set, edition, start, nodes, bindings, collections),
-        SetOpening::Refused(fault) => Err(fault),
+        Ok(start) => unknown_from(set, edition, start, nodes, bindings, collections),
+        Err(fault) => Err(fault),
     }
 }

@@ -13,7 +13,6 @@ use crate::walk_set::SetSettling;
 use crate::{settled_rows, walk_set, write_keys};
 use check_quick::quick_set;
 use check_quick::quick_set::QuickCheck;
-use patch_walk::SetOpening;
 use projection_patch::patch::ProjectionPatchEdition;
 use projection_patch::read_values::ProjectionPatchReadFault;
 
@@ -68,7 +67,7 @@ fn depends_clean(set: &[u8], edition: ProjectionPatchEdition, out: &mut [u64]) -
 {
     let mut table = [0u8; settled_rows::TABLE_BYTES];
     match patch_walk::open_set(set, edition) {
-        SetOpening::At(start) => match walk_set::settle_steps(set, edition, start, &mut table) {
+        Ok(start) => match walk_set::settle_steps(set, edition, start, &mut table) {
             SetSettling::Settled(places) => list_keys(
                 settled_rows::rows_from(&table, places.start),
                 places.count,
@@ -82,9 +81,7 @@ fn depends_clean(set: &[u8], edition: ProjectionPatchEdition, out: &mut [u64]) -
                 DependenciesRefusal::Unreadable(fault),
             ),
         },
-        SetOpening::Refused(fault) => DependenciesAnswer::Refused(DependenciesRefusal::Unreadable(
-            fault,
-        )),
+        Err(fault) => DependenciesAnswer::Refused(DependenciesRefusal::Unreadable(fault)),
     }
 }
 

@@ -43,13 +43,13 @@ pub fn settle_steps(
     let mut index: usize = 0;
     loop {
         match patch_walk::next_step(set, cursor, false, edition) {
-            SetStep::Head(_, next) => {
+            Ok(SetStep::Head(_, next)) => {
                 patch = opened;
                 opened = opened + 1;
                 index = 0;
                 cursor = next;
             }
-            SetStep::Operation(operation, next) => {
+            Ok(SetStep::Operation(operation, next)) => {
                 match settling::settle_operation(table, places, operation) {
                     Settling::Settled(more) => {
                         places = more;
@@ -64,10 +64,10 @@ pub fn settle_steps(
                     }
                 }
             }
-            SetStep::End => {
+            Ok(SetStep::End) => {
                 return SetSettling::Settled(places);
             }
-            SetStep::Refused(fault) => {
+            Err(fault) => {
                 return SetSettling::Unreadable(fault);
             }
         }

@@ -10,7 +10,6 @@ use Rattle.spec_patch.specs.Edition.{Edition}
 use Rattle.projection_patch.specs.Meaning.{edition_of}
 use Rattle.patch_walk.specs.Steps.{AtSteps}
 use Rattle.patch_walk.specs.CountLaws.{StepCounts, step_counts}
-use Rattle.patch_walk.specs.declared.SetStep.{SetStep}
 use Rattle.patch_walk.proofs.Matches.{operation_matches}
 use Rattle.check_targets.specs.Targets.{check_target_of}
 use Rattle.check_targets.specs.TargetsLaws.{with_target_front, with_target_length}

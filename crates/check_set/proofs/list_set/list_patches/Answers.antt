@@ -13,7 +13,7 @@ use Rattle.spec_patch.specs.Edition.{Edition}
 use Rattle.projection_patch.specs.Meaning.{edition_of}
 use Rattle.patch_walk.specs.Steps.{AtSteps}
 use Rattle.patch_walk.specs.CountLaws.{StepCounts, step_counts}
-use Rattle.patch_walk.specs.declared.SetStep.{SetStep}
+use Rattle.patch_walk.specs.Steps.{StepAnswer}
 use Rattle.patch_walk.proofs.Matches.{head_matches}
 use Rattle.check_quick.specs.QuickAnswers.{previous_of}
 use Rattle.check_set.specs.Listed.{table_length}
@@ -28,7 +28,7 @@ set c = c.args.set.now
 abbrev edition : After-next_step → Edition
 edition c = edition_of c.args.edition
 
-counts : (c : After-next_step) (r : SetStep) → c.next_step.result ≡ r → StepCounts c.loop-cursor.cursor r
+counts : (c : After-next_step) (r : StepAnswer) → c.next_step.result ≡ r → StepCounts c.loop-cursor.cursor r
 counts c r q =
     subst (StepCounts c.loop-cursor.cursor) (sym c.next_step.ensures.is ∙ q)
     (step_counts false (edition c) (set c) (bytes_of (set c) (λ j. (c.type_inv.set j).fits)) c.loop-cursor.cursor)

@@ -11,7 +11,6 @@ use Rattle.spec_patch.specs.Edition.{Edition}
 use Rattle.projection_patch.specs.Meaning.{edition_of}
 use Rattle.patch_walk.specs.Steps.{AtSteps}
 use Rattle.patch_walk.specs.CountLaws.{StepCounts, step_counts}
-use Rattle.patch_walk.specs.declared.SetStep.{SetStep}
 use Rattle.patch_walk.proofs.Matches.{head_matches}
 use Rattle.check_quick.specs.QuickAnswers.{previous_of}
 use Rattle.check_set.specs.Listed.{table_length}

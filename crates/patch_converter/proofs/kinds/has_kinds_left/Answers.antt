@@ -15,7 +15,7 @@ use Rattle.projection_patch.specs.ReadAnswers.{lent_from}
 use Rattle.patch_part_writer.proofs.Flags.{fails, not_false_holds}
 use Rattle.patch_walk.specs.Steps.{StepWithin, AtSteps}
 use Rattle.patch_walk.proofs.StepsLaws.{Visited, visited, opened, done, never_refused}
-use Rattle.patch_walk.specs.declared.SetStep.{SetStep}
+use Rattle.patch_walk.specs.Steps.{StepAnswer}
 use Rattle.patch_converter.proofs.KindsLeft.{KindsLeft, kinds_start, kinds_head, kinds_next, kinds_missing, kinds_end}
 use mathlib.Core.Path.{ap}
 use mathlib.Core.Bool.{not}
@@ -28,7 +28,7 @@ set c = c.args.set.now
 abbrev from : After-next_step → Edition
 from c = edition_of c.args.from
 
-within : (c : After-next_step) (r : SetStep) → c.next_step.result ≡ r → StepWithin c.loop-next.cursor (length (set c)) r
+within : (c : After-next_step) (r : StepAnswer) → c.next_step.result ≡ r → StepWithin c.loop-next.cursor (length (set c)) r
 within c r q = subst (StepWithin c.loop-next.cursor (length (set c))) q c.next_step.ensures.within
 
 -- the operation that was asked about

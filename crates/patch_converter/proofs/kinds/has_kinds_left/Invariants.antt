@@ -14,7 +14,6 @@ use Rattle.projection_patch.specs.ReadAnswers.{lent_from}
 use Rattle.patch_part_writer.proofs.Flags.{fails, not_false_holds}
 use Rattle.patch_walk.specs.Steps.{StepWithin, AtSteps}
 use Rattle.patch_walk.proofs.StepsLaws.{Visited, visited, opened, done, never_refused}
-use Rattle.patch_walk.specs.declared.SetStep.{SetStep}
 use Rattle.patch_converter.proofs.KindsLeft.{KindsLeft, kinds_start, kinds_head, kinds_next, kinds_missing, kinds_end}
 use mathlib.Core.Path.{ap}
 use mathlib.Core.Bool.{not}

@@ -14,7 +14,7 @@ use Rattle.projection_patch.specs.Meaning.{edition_of}
 use Rattle.projection_patch.specs.ReadAnswers.{lent_from}
 use Rattle.patch_walk.specs.Steps.{StepWithin, AtSteps}
 use Rattle.patch_walk.proofs.StepsLaws.{visited, opened, done, never_refused}
-use Rattle.patch_walk.specs.declared.SetStep.{SetStep}
+use Rattle.patch_walk.specs.Steps.{StepAnswer}
 use Rattle.session_gates.specs.Lent.{Lent}
 use Rattle.session_explain.specs.Unknown.{unknown_to}
 use Rattle.panel_steps.specs.Walking.{Walking, walk_start, walk_end, walk_head, walk_on_lem, walk_halts}
@@ -29,7 +29,7 @@ set k = k.args.set.now
 abbrev told : After-next_step → Edition
 told k = edition_of k.args.edition
 
-within : (k : After-next_step) (r : SetStep) → k.next_step.result ≡ r → StepWithin k.loop-next.cursor (length (set k)) r
+within : (k : After-next_step) (r : StepAnswer) → k.next_step.result ≡ r → StepWithin k.loop-next.cursor (length (set k)) r
 within k r q = subst (StepWithin k.loop-next.cursor (length (set k))) q k.next_step.ensures.within
 
 pub loop-next-init : goal.loop-next-init

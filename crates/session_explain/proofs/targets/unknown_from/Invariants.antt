@@ -13,7 +13,6 @@ use Rattle.projection_patch.specs.Meaning.{edition_of}
 use Rattle.projection_patch.specs.ReadAnswers.{lent_from}
 use Rattle.patch_walk.specs.Steps.{StepWithin, AtSteps}
 use Rattle.patch_walk.proofs.StepsLaws.{visited, opened, done, never_refused}
-use Rattle.patch_walk.specs.declared.SetStep.{SetStep}
 use Rattle.session_gates.specs.Lent.{Lent}
 use Rattle.session_explain.specs.Unknown.{unknown_to}
 use Rattle.panel_steps.specs.Walking.{Walking, walk_start, walk_end, walk_head, walk_on_lem, walk_halts}

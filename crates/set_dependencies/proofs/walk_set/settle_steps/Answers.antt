@@ -13,7 +13,7 @@ use Rattle.spec_dependencies.specs.Dependencies.{settle_patches}
 use Rattle.projection_patch.specs.Meaning.{edition_of}
 use Rattle.patch_walk.specs.Steps.{StepWithin, AtSteps}
 use Rattle.patch_walk.proofs.StepsLaws.{visited, opened, done, never_refused}
-use Rattle.patch_walk.specs.declared.SetStep.{SetStep}
+use Rattle.patch_walk.specs.Steps.{StepAnswer}
 use Rattle.set_dependencies.specs.SettledRows.{SettledIn, no_places}
 use Rattle.set_dependencies.proofs.Walking.{SettlingRun, settling_start, settling_end, settling_head, settling_on, settling_contradicts}
 use Rattle.set_dependencies.proofs.walk_set.settle_steps.Goals as goal
@@ -25,7 +25,7 @@ set k = k.args.set.now
 abbrev told : After-next_step → Edition
 told k = edition_of k.args.edition
 
-within : (k : After-next_step) (r : SetStep) → k.next_step.result ≡ r → StepWithin k.loop-next.cursor (length (set k)) r
+within : (k : After-next_step) (r : StepAnswer) → k.next_step.result ≡ r → StepWithin k.loop-next.cursor (length (set k)) r
 within k r q = subst (StepWithin k.loop-next.cursor (length (set k))) q k.next_step.ensures.within
 
 pub loop-next-init : goal.loop-next-init

@@ -12,7 +12,6 @@ use Rattle.spec_dependencies.specs.Dependencies.{settle_patches}
 use Rattle.projection_patch.specs.Meaning.{edition_of}
 use Rattle.patch_walk.specs.Steps.{StepWithin, AtSteps}
 use Rattle.patch_walk.proofs.StepsLaws.{visited, opened, done, never_refused}
-use Rattle.patch_walk.specs.declared.SetStep.{SetStep}
 use Rattle.set_dependencies.specs.SettledRows.{SettledIn, no_places}
 use Rattle.set_dependencies.proofs.Walking.{SettlingRun, settling_start, settling_end, settling_head, settling_on, settling_contradicts}
 use Rattle.set_dependencies.proofs.walk_set.settle_steps.Given as goal
