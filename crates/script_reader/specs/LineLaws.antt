@@ -7,7 +7,7 @@ use Rattle.spec_replay.specs.Lines.{newline, prepend, split}
 use Rattle.script_reader.specs.Lines.{first_part, first_script_line}
 
 -- a byte before the first part is one before its first byte
-first_prepend : (b : ℕ) (parts : List (List ℕ)) → first_part (prepend b parts) ≡ b ∷ first_part parts
+pub first_prepend : (b : ℕ) (parts : List (List ℕ)) → first_part (prepend b parts) ≡ b ∷ first_part parts
 unfolding first_part prepend
 first_prepend b [] = refl
 first_prepend b (part ∷ parts) = refl

@@ -1,24 +1,15 @@
--- `script_reader::line_end` meets its contract. The invariant: what is left of the line ends where the whole does.
-use Prim.Native.Nat.{◌+◌, ◌-◌, ◌≤◌}
-use mathlib.Core.Path.{◌≡◌, refl}
-use native.Mathlib.Omega.{arith}
-use borrow.Author.Rules.{rules}
-use lib.ListN.{length, drop}
+-- `script_reader::line_end` meets its contract: the library's search, in what is left of the bytes.
+use Rattle.std.proofs.Common.{ℕ, ◌+◌, ◌≡◌, List, Bor, length, drop, refl, ap, ◌∙◌}
+use Rattle.std.specs.Prelude.{Option}
+use Rattle.std.specs.Option.{unwrap_or}
 use Rattle.script_reader.specs.Lines.{first_script_line}
-use Rattle.script_reader.specs.LineLaws.{line_at_newline, line_past_byte, line_at_end}
+use Rattle.script_reader.proofs.Search.{line_or_length, rest_from}
 use Rattle.script_reader.proofs.line_end.Goals as goal
 
-pub loop-i-init : goal.loop-i-init
-loop-i-init c = (refl, omega arith)
-
-pub returns-then-bytes-i-eq10 : goal.returns-then-bytes-i-eq10
-returns-then-bytes-i-eq10 c =
-    record { value = omega (arith, line_at_newline c.args.bytes.now c.loop-i.i (omega arith) c.if-bytes-i-eq10.true); upper_bound = omega arith }
-
-pub loop-i-preserved : goal.loop-i-preserved
-loop-i-preserved c =
-    (omega (arith, line_past_byte c.args.bytes.now c.loop-i.i (omega arith) c.if-bytes-i-eq10.false), omega arith)
-
-pub returns : goal.returns
-returns c =
-    record { value = omega (arith, line_at_end c.args.bytes.now c.loop-i.i (omega arith)); upper_bound = omega arith }
+pub returns-clause-value : goal.returns-clause-value
+returns-clause-value c =
+    let rest : List ℕ = c.unwrap_or-rest.result.now in
+    let whole : rest ≡ drop c.args.from c.args.bytes.now =
+    ap (λ (b : Bor (List ℕ)). b.now) c.unwrap_or-rest.ensures ∙ rest_from c.args.bytes.now c.args.from _ refl c.get.result c.get.ensures.lookup in
+    ap (λ (n : ℕ). c.args.from + n)
+    (c.unwrap_or.ensures ∙ ap (λ (o : Option ℕ). unwrap_or o (length rest)) c.first_newline.ensures ∙ line_or_length rest ∙ ap (λ (l : List ℕ). length (first_script_line l)) whole)
