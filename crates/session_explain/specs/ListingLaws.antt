@@ -1,6 +1,6 @@
 -- The reason of a listing: that of reading, or else that of the findings, or else that of the operations on an empty panel.
 use Rattle.std.specs.Prelude.{ℕ, Result, Ok, Err}
-use Rattle.std.proofs.Math.Path.{◌≡◌, refl, sym, ap₂}
+use Rattle.std.proofs.Math.Path.{◌≡◌, refl, sym, ap, ap₂}
 use Rattle.std.proofs.Common.{◌∙◌, arith}
 use mathlib.Core.List.{List}
 use Rattle.std.proofs.Math.Option.{Option, none, some}

@@ -85,7 +85,7 @@ targets_to n (Ok code.None) = Ok tt
 targets_to n (Ok (code.Some (i, j))) = Err (reasons.UnknownTarget n i j)
 targets_to n (Err f) = Ok tt
 
-abbrev pub operations_to : Result (code.Option ((ℕ × ℕ) × OperationRule)) ProjectionPatchReadFault → Result (Unit {0}) BatchReason
+abbrev pub operations_to : Result (code.Option (ℕ × ℕ × OperationRule)) ProjectionPatchReadFault → Result (Unit {0}) BatchReason
 operations_to (Ok code.None) = Ok tt
-operations_to (Ok (code.Some ((i, j), r))) = Err (reasons.OperationFails i j r)
+operations_to (Ok (code.Some (i, j, r))) = Err (reasons.OperationFails i j r)
 operations_to (Err f) = Ok tt

@@ -18,6 +18,6 @@ pub record StandsFor (n : ℕ) (e : List ℕ) (p : Projection) : Type 0 where
   pub sources : Resolution
   pub resolves : resolved sources plan ≡ p
 
-abbrev pub reason_refused_to : Walk Projection → Result (Option ((ℕ × ℕ) × OperationRule)) ProjectionPatchReadFault
+abbrev pub reason_refused_to : Walk Projection → Result (Option (ℕ × ℕ × OperationRule)) ProjectionPatchReadFault
 reason_refused_to (through p) = Ok None
-reason_refused_to (halted h) = Ok (Some ((h.patch, h.operation), operation_rule_to (rule_of h.left h.refused)))
+reason_refused_to (halted h) = Ok (Some (h.patch, h.operation, operation_rule_to (rule_of h.left h.refused)))

@@ -60,11 +60,11 @@ module _ (r : Resolution) where
 module _ {ed : Edition} {set : List ℕ} {count : ℕ} {c : SetCursor} {h : Halt Projection} (k : HaltsAt ed set count c h) {n : ℕ} {e : List ℕ} (s : StandsFor n e h.left) where
   -- told by its place and its rule
   pub halt_told : {x : ProjectionPatchOperation} {d : SetCursor} → Visited ed set c (h.refused ∷ k.later) k.rest x d → (patch index : ℕ) (rule : OperationRule) → patch ≡ patch_index count c → index ≡ operation_index c
-      → rule ≡ operation_rule_to (rule_of s.plan (operation_of (lent_from set c.at) x)) → Ok (code.Some ((patch, index), rule)) ≡ reason_refused_to (halted h)
+      → rule ≡ operation_rule_to (rule_of s.plan (operation_of (lent_from set c.at) x)) → Ok (code.Some (patch, index, rule)) ≡ reason_refused_to (halted h)
   halt_told {x} v patch index rule patch_is index_is rule-is =
       let read : operation_of (lent_from set c.at) x ≡ h.refused = v.means ∙ sym (head-eq_of_cons-eq v.is) in
       let told : rule ≡ operation_rule_to (rule_of h.left h.refused) = rule-is ∙ ap operation_rule_to (ap (rule_of s.plan) read ∙ sym (resolved_rule s.sources s.plan h.refused) ∙ ap (λ (q : Projection). rule_of q h.refused) s.resolves) in
-      ap₂ (λ (i j : ℕ). Ok (code.Some ((i, j), rule))) (patch_is ∙ sym k.patch) (index_is ∙ sym k.operation) ∙ ap (λ (r : OperationRule). Ok (code.Some ((h.patch, h.operation), r))) told
+      ap₂ (λ (i j : ℕ). Ok (code.Some (i, j, rule))) (patch_is ∙ sym k.patch) (index_is ∙ sym k.operation) ∙ ap (λ (r : OperationRule). Ok (code.Some (h.patch, h.operation, r))) told
 
 -- ---- what a run answers
 
@@ -82,7 +82,7 @@ module _ {ed : Edition} {p : Projection} {ps : List Patch} {set b a e : List ℕ
       go (through q) t = refl
       go (halted h) t = absurd t
 
-  pub walked_halts : (f : LocalProjectionApplicationError) (c : SetCursor) (n : ProjectionCounts) → r ≡ plan.Refused f c n → (y : Result (code.Option ((ℕ × ℕ) × OperationRule)) ProjectionPatchReadFault)
+  pub walked_halts : (f : LocalProjectionApplicationError) (c : SetCursor) (n : ProjectionCounts) → r ≡ plan.Refused f c n → (y : Result (code.Option (ℕ × ℕ × OperationRule)) ProjectionPatchReadFault)
       → ((h : Halt Projection) → HaltsAt ed set (length ps) c h → StandsFor n.entries e h.left → y ≡ reason_refused_to (halted h)) → y ≡ reason_refused_to whole
   walked_halts f c n is y at = go whole (subst (λ z. Walked z whole) is told.walked)
     where

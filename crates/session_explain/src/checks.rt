@@ -34,7 +34,8 @@ fn explain_targets(
 {
     match targets::first_unknown(set, edition, nodes, bindings, collections) {
         Ok(Some((patch, operation))) => Err(BatchReason::UnknownTarget(absent, patch, operation)),
-        Ok(None) | Err(_) => Ok(()),
+        Ok(None) => Ok(()),
+        Err(_) => Ok(()),
     }
 }
 

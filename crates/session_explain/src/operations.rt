@@ -137,7 +137,8 @@ pub fn explain_tables(
         Ok(Some((patch, operation, rule))) => Err(BatchReason::OperationFails(
             patch, operation, rule,
         )),
-        Ok(None) | Err(_) => Ok(()),
+        Ok(None) => Ok(()),
+        Err(_) => Ok(()),
     }
 }
 

@@ -12,7 +12,7 @@ returns-in_err-explain_counts c =
 pub returns-in_err-explain_targets : goal.returns-in_err-explain_targets
 returns-in_err-explain_targets c =
     λ k ps lent r.
-    let p = err_from_is_err_and c.from_residual.result c.from_residual.ensures.1 in
+    let p = err_from_is_err_and c.from_residual-in_err-explain_targets.result c.from_residual-in_err-explain_targets.ensures.1 in
     rw (p.1, p.2) (clean_targets k _ _ _ _ _ _ _ ps c.explain_counts.ensures c.in_ok-explain_counts.was (c.explain_targets.ensures k ps lent r) c.in_err-explain_targets.was)
 
 pub returns : goal.returns

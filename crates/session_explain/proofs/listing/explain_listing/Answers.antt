@@ -11,7 +11,7 @@ returns-in_err-explain_check c =
 
 pub returns-in_err-explain_findings : goal.returns-in_err-explain_findings
 returns-in_err-explain_findings c =
-    let p = err_from_is_err_and c.from_residual.result c.from_residual.ensures.1 in
+    let p = err_from_is_err_and c.from_residual-in_err-explain_findings.result c.from_residual-in_err-explain_findings.ensures.1 in
     rw (p.1, p.2) (listing_found _ _ c.explain_check.ensures c.in_ok-explain_check.was c.explain_findings.ensures c.in_err-explain_findings.was)
 
 pub returns : goal.returns
