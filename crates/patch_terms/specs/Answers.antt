@@ -3,10 +3,17 @@ use Rattle.std.specs.Prelude.{ℕ, ◌+◌, ◌-◌, ◌≡◌, true, List, leng
 use Rattle.std.proofs.Math.Option.{Option, none, some}
 use Rattle.spec_patch.specs.TextRule.{allowed}
 use Rattle.spec_import.specs.Import.{Term, read_term, keeps_text}
+use Rattle.projection_patch.specs.declared.text_rule.TextFault.{TextFault}
+use Rattle.projection_patch.specs.declared.text_rule.TextFault.TheVariants as text
 use Rattle.patch_terms.specs.declared.TermRefusal.{TermRefusal}
 use Rattle.patch_terms.specs.declared.TermRefusal.TheVariants.{OtherForm, OverCapacity}
 use Rattle.patch_terms.specs.declared.TermLine.{TermLine}
 use Rattle.patch_terms.specs.Places.{first_term_line}
+
+-- why a line with such a text holds no term
+abbrev pub text_refused : TextFault → TermRefusal
+text_refused text.Malformed = OtherForm
+text_refused text.ManyCharacters = OverCapacity
 
 -- a key, and the position where its text starts
 abbrev pub term_ok : ℕ → ℕ → Result (ℕ × ℕ) TermRefusal

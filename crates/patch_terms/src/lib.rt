@@ -3,7 +3,7 @@
 
 ghost use Rattle.std.specs.Prelude.{◌≡◌, ◌==◌, ◌≤◌, length, drop, position};
 ghost use Rattle.patch_terms.specs.Places.{byte_place_of};
-ghost use Rattle.patch_terms.specs.Answers.{judged_term, term_answer, line_answer, HoldsTerm};
+ghost use Rattle.patch_terms.specs.Answers.{text_refused, judged_term, term_answer, line_answer, HoldsTerm};
 
 use projection_patch::patch::ProjectionPatchValue;
 use projection_patch::text_rule::{TextFault, judge_text};
@@ -19,6 +19,18 @@ pub enum TermRefusal {
     OverCapacity,
 }
 
+// A text that is not UTF-8 is of another form.
+impl From<TextFault> for TermRefusal {
+    ghost from_gives = { λ fault refusal. refusal ≡ text_refused fault };
+
+    fn from(fault: TextFault) -> TermRefusal {
+        match fault {
+            TextFault::Malformed => TermRefusal::OtherForm,
+            TextFault::ManyCharacters => TermRefusal::OverCapacity,
+        }
+    }
+}
+
 // The key of a line, the place of its text in the list, and where the next line starts.
 #[derive(Clone, Copy)]
 pub struct TermLine {
@@ -28,6 +40,7 @@ pub struct TermLine {
     pub next: usize,
 }
 
+// The index of the first such byte.
 fn first_of(bytes: &[u8], byte: u8) -> Option<usize>
     ensures { result ≡ position (λ b. b == byte) bytes.now }
 {
@@ -43,19 +56,15 @@ fn place_of(bytes: &[u8], byte: u8) -> usize
 }
 
 // A key, and the text that starts behind it: UTF-8 belongs to the form, and the limits come after it.
+#[tactic(auto, unfolding(spec_import::specs::Import::keeps_text))]
 fn judge_term(key: u64, start: usize, text: &[u8]) -> Result<(u64, usize), TermRefusal>
     ensures { result ≡ judged_term key start text.now }
 {
-    match judge_text(text) {
-        Err(TextFault::Malformed) => Err(TermRefusal::OtherForm),
-        Err(TextFault::ManyCharacters) => Err(TermRefusal::OverCapacity),
-        Ok(()) => {
-            if ProjectionPatchValue::TEXT_BYTES < text.len() {
-                return Err(TermRefusal::OverCapacity);
-            }
-            Ok((key, start))
-        }
+    judge_text(text)?;
+    if ProjectionPatchValue::TEXT_BYTES < text.len() {
+        return Err(TermRefusal::OverCapacity);
     }
+    Ok((key, start))
 }
 
 // The key of a line, read without its newline, and where its text starts.
@@ -70,10 +79,8 @@ fn read_term(line: &[u8]) -> Result<(u64, usize), TermRefusal>
     if place_of(&line[start..], TAB) < line.len() - start {
         return Err(TermRefusal::OtherForm);
     }
-    match bytes_decimal::read_u64(&line[..tab]) {
-        Some(key) => judge_term(key, start, &line[start..]),
-        None => Err(TermRefusal::OtherForm),
-    }
+    let key = bytes_decimal::read_u64(&line[..tab]).ok_or(TermRefusal::OtherForm)?;
+    judge_term(key, start, &line[start..])
 }
 
 // Reads the line of a list that starts at a position.
@@ -98,9 +105,7 @@ pub fn reread_line(list: &[u8], at: usize) -> TermLine
 {
     let end = at + place_of(&list[at..], NEWLINE);
     let tab = at + place_of(&list[at..end], TAB);
-    let Some(key) = bytes_decimal::read_u64(&list[at..tab]) else {
-        unreachable!()
-    };
+    let key = bytes_decimal::read_u64(&list[at..tab]).unwrap();
     TermLine {
         key,
         start: tab + 1,

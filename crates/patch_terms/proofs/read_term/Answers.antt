@@ -1,8 +1,12 @@
 -- `read_term` meets its contract: where the tabs stand, then what the key spells, then how the text is judged.
 -- ---- where a tab was found
 -- ---- where it is the only one
+use Rattle.std.specs.Prelude as code
+use Rattle.std.specs.Option.{ok_or}
+use Rattle.patch_terms.specs.declared.TermRefusal.{TermRefusal}
+use Rattle.patch_terms.specs.declared.TermRefusal.TheVariants.{OtherForm}
 use Prim.Native.Nat.{ℕ, suc, ◌+◌, ◌-◌, ◌≤◌, ◌<◌}
-use mathlib.Core.Path.{◌≡◌, sym, ap, ◌∙◌}
+use mathlib.Core.Path.{◌≡◌, refl, sym, ap, ◌∙◌}
 use mathlib.Core.List.{List}
 use native.Mathlib.Omega.{arith}
 use lib.ListN.{length, take, drop, length-drop}
@@ -80,11 +84,24 @@ slice_bounds-judge_term-count c = inside (goal.at.slice_bounds-judge_term-count 
 pub slice_bounds-judge_term-start : goal.slice_bounds-judge_term-start
 slice_bounds-judge_term-start c = inside (goal.at.slice_bounds-judge_term-start c).Else-tab-line
 
-pub returns-in-Some : goal.returns-in-Some
-returns-in-Some c =
-    c.judge_term.ensures ∙ ap (judged_term _ (start (goal.at.returns-in-Some c).Else-tab-line)) (lent (goal.at.returns-in-Some c).Else-tab-line)
-    ∙ line_judged (line (goal.at.returns-in-Some c).After-place_of-tab) (found (goal.at.returns-in-Some c).Else-tab-line) (only (goal.at.returns-in-Some c).Else-place_of-line) _ (spelled (goal.at.returns-in-Some c).After-read_u64 ∙ ap optional_of c.in-Some.is) (start (goal.at.returns-in-Some c).Else-tab-line) (started (goal.at.returns-in-Some c).Else-tab-line)
+-- a key that is missing is another form, and one that is there is the key
+missing : (o : code.Option ℕ) (r : TermRefusal) → ◌≡◌ {A = code.Result ℕ TermRefusal} (ok_or o OtherForm) (code.Err r) → (o ≡ code.None) × (OtherForm ≡ r)
+missing code.None r e = (refl, cc)
+missing (code.Some k) r e = absurd (let z : ◌≡◌ {A = ℕ} 0 1 = cc in omega arith)
 
-pub returns-in-None : goal.returns-in-None
-returns-in-None c =
-    line_unspelled (line (goal.at.returns-in-None c).After-place_of-tab) (found (goal.at.returns-in-None c).Else-tab-line) (only (goal.at.returns-in-None c).Else-place_of-line) (spelled (goal.at.returns-in-None c).After-read_u64 ∙ ap optional_of c.in-None.is)
+there : (o : code.Option ℕ) (k : ℕ) → ◌≡◌ {A = code.Result ℕ TermRefusal} (ok_or o OtherForm) (code.Ok k) → o ≡ code.Some k
+there code.None k e = absurd (let z : ◌≡◌ {A = ℕ} 0 1 = cc in omega arith)
+there (code.Some n) k e = let same : n ≡ k = cc in ap code.Some same
+
+pub returns-in_err-key : goal.returns-in_err-key
+returns-in_err-key c =
+    let none = missing c.read_u64.result c.in_err-key.field-0.0 (sym c.ok_or.ensures.value ∙ c.in_err-key.was) in
+    let told : c.from_residual.result ≡ code.Err c.in_err-key.field-0.0 = search rules in
+    told ∙ ap code.Err (sym none.1)
+    ∙ line_unspelled (line (goal.at.returns-in_err-key c).After-place_of-tab) (found (goal.at.returns-in_err-key c).Else-tab-line) (only (goal.at.returns-in_err-key c).Else-place_of-line) (spelled (goal.at.returns-in_err-key c).After-read_u64 ∙ ap optional_of none.0)
+
+pub returns : goal.returns
+returns c =
+    let some = there c.read_u64.result c.in_ok-key.key (sym c.ok_or.ensures.value ∙ c.in_ok-key.was) in
+    c.judge_term.ensures ∙ ap (judged_term _ (start (goal.at.returns c).Else-tab-line)) (lent (goal.at.returns c).Else-tab-line)
+    ∙ line_judged (line (goal.at.returns c).After-place_of-tab) (found (goal.at.returns c).Else-tab-line) (only (goal.at.returns c).Else-place_of-line) _ (spelled (goal.at.returns c).After-read_u64 ∙ ap optional_of some) (start (goal.at.returns c).Else-tab-line) (started (goal.at.returns c).Else-tab-line)

@@ -1,6 +1,7 @@
 -- `reread_line` meets its contract: the line goes up to the newline and its key up to the tab, which is there.
 -- ---- the tab
 -- ---- the key
+use Rattle.std.specs.Prelude as code
 use Prim.Native.Nat.{ℕ, suc, ◌+◌, ◌-◌, ◌≤◌, ◌<◌}
 use mathlib.Core.Path.{◌≡◌, sym, ap, ap₂, ◌∙◌}
 use mathlib.Core.List.{List}
@@ -18,7 +19,7 @@ use Rattle.patch_terms.specs.PlacesLaws.{byte_place_of_within}
 use Rattle.patch_terms.specs.Answers.{line_ok, line_to, term_answer, HoldsTerm}
 use Rattle.patch_terms.specs.AnswersLaws.{known_tab, known_key}
 use Rattle.patch_terms.proofs.reread_line.Goals as goal
-use Rattle.patch_terms.proofs.reread_line.Goals.{After-place_of, After-place_of-2, After-read_u64, In-Some}
+use Rattle.patch_terms.proofs.reread_line.Goals.{After-place_of, After-place_of-2, After-read_u64, After-unwrap-key}
 
 abbrev at : After-place_of → ℕ
 at k = k.args.at
@@ -57,9 +58,13 @@ spelled k =
     let same = sym (take-take (byte_place_of tab (line (goal.at.After-read_u64 k).After-place_of)) (byte_place_of newline (bytes (goal.at.After-read_u64 k).After-place_of)) (bytes (goal.at.After-read_u64 k).After-place_of) (omega (arith, tab-at (goal.at.After-read_u64 k).After-place_of-2, before-end (goal.at.After-read_u64 k).After-place_of-2, place (goal.at.After-read_u64 k).After-place_of))) in
     k.read_u64.ensures ∙ ap (λ (n : ℕ). read_decimal (take n (bytes (goal.at.After-read_u64 k).After-place_of))) size ∙ ap read_decimal same ∙ (known_key (line (goal.at.After-read_u64 k).After-place_of) (holds (goal.at.After-read_u64 k).After-place_of).key (holds (goal.at.After-read_u64 k).After-place_of).start (holds (goal.at.After-read_u64 k).After-place_of).is).0
 
+there : (o : code.Option ℕ) (k : ℕ) → optional_of o ≡ some k → o ≡ code.Some k
+there code.None k e = absurd (let z : ◌≡◌ {A = ℕ} 0 1 = cc in omega arith)
+there (code.Some n) k e = let same : n ≡ k = cc in ap code.Some same
+
 -- the text starts within the line
-short : (c : In-Some) → at (goal.at.In-Some c).After-place_of + c.place_of-2.result + 1 ≤ at (goal.at.In-Some c).After-place_of + c.place_of.result
-short c = omega (arith, before-end (goal.at.In-Some c).After-place_of-2)
+short : (c : After-unwrap-key) → at (goal.at.After-unwrap-key c).After-place_of + c.place_of-2.result + 1 ≤ at (goal.at.After-unwrap-key c).After-place_of + c.place_of.result
+short c = omega (arith, before-end (goal.at.After-unwrap-key c).After-place_of-2)
 
 pub overflow_sub-result : goal.overflow_sub-result
 overflow_sub-result c = short c
@@ -67,14 +72,12 @@ overflow_sub-result c = short c
 pub returns : goal.returns
 returns c =
     let h = holds (goal.at.returns c).After-place_of in
-    let told : some c.in-Some.key ≡ some h.key = sym (ap optional_of c.in-Some.is) ∙ spelled (goal.at.returns c).After-read_u64 in
-    let key : c.in-Some.key ≡ h.key = cc in
+    let told : code.Some c.unwrap-key.result ≡ code.Some h.key = sym c.unwrap-key.ensures ∙ there _ _ (spelled (goal.at.returns c).After-read_u64) in
+    let key : c.unwrap-key.result ≡ h.key = cc in
     let starts : at (goal.at.returns c).After-place_of + c.place_of-2.result + 1 ≡ at (goal.at.returns c).After-place_of + h.start = omega (arith, tab-at (goal.at.returns c).After-place_of-2, (known_key (line (goal.at.returns c).After-place_of) h.key h.start h.is).1) in
     let ends : at (goal.at.returns c).After-place_of + c.place_of.result ≡ at (goal.at.returns c).After-place_of + length (line (goal.at.returns c).After-place_of) = ap (λ (n : ℕ). at (goal.at.returns c).After-place_of + n) (sym (long (goal.at.returns c).After-place_of)) in
     (λ i. line_ok (key i) (starts i) (ends i - starts i) (ends i + 1))
     ∙ sym (ap (line_to (at (goal.at.returns c).After-place_of) (at (goal.at.returns c).After-place_of + length (line (goal.at.returns c).After-place_of))) h.is)
 
-pub unreachable-requires : goal.unreachable-requires
-unreachable-requires c =
-    let told = sym (ap optional_of c.in_default.is) ∙ spelled (goal.at.unreachable-requires c).After-read_u64 in
-    absurd (let z : ◌≡◌ {A = ℕ} 0 1 = cc in omega arith)
+pub unwrap-key-requires : goal.unwrap-key-requires
+unwrap-key-requires c = rw (there _ _ (spelled (goal.at.unwrap-key-requires c).After-read_u64))
