@@ -48,8 +48,8 @@ fn refused_at(
     ensures { (h : Halt Projection) → HaltsAt (edition_of edition) set.now patches cursor h → StandsFor count entries.now h.left
         → result ≡ reason_refused_to (halted h) }
 {
-    let step = patch_walk::next_step(set, cursor, false, edition);
-    let Ok(SetStep::Operation(operation, _)) = step else {
+    let step = patch_walk::next_step(set, cursor, false, edition)?;
+    let SetStep::Operation(operation, _) = step else {
         return Err(ProjectionPatchReadFault::Malformed);
     };
     let rule = rules::rule_of(entries, count, operation);
@@ -107,18 +107,16 @@ pub fn first_refused(
     fill::plan_bindings(bindings, counts.bindings, &mut plan_bindings);
     moves::copy(availability, &mut plan_availability);
     fill::plan_entries(entries, counts.entries, &mut plan_entries);
-    match patch_walk::open_set(set, edition) {
-        Ok(start) => refused_from(
-            &mut plan_bindings,
-            &mut plan_availability,
-            &mut plan_entries,
-            counts,
-            set,
-            edition,
-            start,
-        ),
-        Err(fault) => Err(fault),
-    }
+    let start = patch_walk::open_set(set, edition)?;
+    refused_from(
+        &mut plan_bindings,
+        &mut plan_availability,
+        &mut plan_entries,
+        counts,
+        set,
+        edition,
+        start,
+    )
 }
 
 // Step 9 with its reason, on lent tables.

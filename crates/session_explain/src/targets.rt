@@ -46,27 +46,21 @@ fn unknown_from(
     let mut patch: usize = 0;
     let mut index: usize = 0;
     loop {
-        match patch_walk::next_step(set, cursor, false, edition) {
-            Ok(SetStep::Head(_, next)) => {
+        match patch_walk::next_step(set, cursor, false, edition)? {
+            SetStep::Head(_, next) => {
                 patch = opened;
                 opened = opened + 1;
                 index = 0;
                 cursor = next;
             }
-            Ok(SetStep::Operation(operation, next)) => {
-                if target_known(nodes, bindings, collections, operation) {
-                    index = index + 1;
-                    cursor = next;
-                } else {
+            SetStep::Operation(operation, next) => {
+                if !target_known(nodes, bindings, collections, operation) {
                     return Ok(Some((patch, index)));
                 }
+                index = index + 1;
+                cursor = next;
             }
-            Ok(SetStep::End) => {
-                return Ok(None);
-            }
-            Err(fault) => {
-                return Err(fault);
-            }
+            SetStep::End => return Ok(None),
         }
     }
 }
@@ -82,8 +76,6 @@ pub fn first_unknown(
     ensures { (c : Catalogue) (ps : List Patch) → Lent c nodes.now bindings.now collections.now → read_set (edition_of edition) set.now ≡ patches ps
         → result ≡ unknown_to (walk_patches (tested (target_known c)) 0 tt ps) }
 {
-    match patch_walk::open_set(set, edition) {
-        Ok(start) => unknown_from(set, edition, start, nodes, bindings, collections),
-        Err(fault) => Err(fault),
-    }
+    let start = patch_walk::open_set(set, edition)?;
+    unknown_from(set, edition, start, nodes, bindings, collections)
 }

@@ -44,15 +44,18 @@ returns-then-availability-ne-AVAILABILITY_BYTES c = λ p ps st e. absurd (c.if-a
 -- what was opened is not too long
 pub refused_from-requires : goal.refused_from-requires
 refused_from-requires c =
-    opened_short (edition (goal.at.refused_from-requires c).After-open_set) (set (goal.at.refused_from-requires c).After-open_set) _ (sym c.open_set.ensures ∙ c.in-At.is)
+    let o = (goal.at.refused_from-requires c).After-open_set in
+    opened_short (edition o) (set o) _ (sym c.open_set.ensures ∙ c.in_ok-start.was)
 
-pub returns-in-At : goal.returns-in-At
-returns-in-At c =
+pub returns-in_err-start : goal.returns-in_err-start
+returns-in_err-start c =
+    let o = (goal.at.returns-in_err-start c).After-open_set in
+    λ p ps st e. absurd (never_unopened (edition o) (set o) (all_bytes o) ps e c.open_set.ensures _ c.in_err-start.was)
+
+pub returns : goal.returns
+returns c =
+    let o = (goal.at.returns c).After-open_set in
     let copied = c.copy.ensures ∙ overwrite_all c.args.availability.now (zeros availability_bytes) (room c.args.availability.now c.if-availability-ne-AVAILABILITY_BYTES.false) in
     λ p ps st e. c.refused_from.ensures p ps st.valid
     (plan_starts st copied (c.plan_bindings.ensures p.bindings st.bindings no_bindings) (c.plan_entries.ensures p.entries st.entries no_entries))
-    (opened_at (edition (goal.at.returns-in-At c).After-open_set) (set (goal.at.returns-in-At c).After-open_set) (all_bytes (goal.at.returns-in-At c).After-open_set) ps e c.open_set.ensures _ c.in-At.is)
-
-pub returns-in-Refused : goal.returns-in-Refused
-returns-in-Refused c =
-    λ p ps st e. absurd (never_unopened (edition (goal.at.returns-in-Refused c).After-open_set) (set (goal.at.returns-in-Refused c).After-open_set) (all_bytes (goal.at.returns-in-Refused c).After-open_set) ps e c.open_set.ensures _ c.in-Refused.is)
+    (opened_at (edition o) (set o) (all_bytes o) ps e c.open_set.ensures _ c.in_ok-start.was)

@@ -19,10 +19,12 @@ edition o = edition_of o.args.edition
 all_bytes : (o : After-open_set) → Bytes (set o)
 all_bytes o = bytes_of (set o) (λ j. (o.type_inv.set j).fits)
 
-pub returns-in-At : goal.returns-in-At
-returns-in-At c =
-    λ cat ps lent e. c.unknown_from.ensures cat ps lent (opened_at (edition (goal.at.returns-in-At c).After-open_set) (set (goal.at.returns-in-At c).After-open_set) (all_bytes (goal.at.returns-in-At c).After-open_set) ps e c.open_set.ensures _ c.in-At.is)
+pub returns-in_err-start : goal.returns-in_err-start
+returns-in_err-start c =
+    let o = (goal.at.returns-in_err-start c).After-open_set in
+    λ cat ps lent e. absurd (never_unopened (edition o) (set o) (all_bytes o) ps e c.open_set.ensures _ c.in_err-start.was)
 
-pub returns-in-Refused : goal.returns-in-Refused
-returns-in-Refused c =
-    λ cat ps lent e. absurd (never_unopened (edition (goal.at.returns-in-Refused c).After-open_set) (set (goal.at.returns-in-Refused c).After-open_set) (all_bytes (goal.at.returns-in-Refused c).After-open_set) ps e c.open_set.ensures _ c.in-Refused.is)
+pub returns : goal.returns
+returns c =
+    let o = (goal.at.returns c).After-open_set in
+    λ cat ps lent e. c.unknown_from.ensures cat ps lent (opened_at (edition o) (set o) (all_bytes o) ps e c.open_set.ensures _ c.in_ok-start.was)
