@@ -1,6 +1,7 @@
 -- What the calls that count or write answer, as three numbers.
-use Rattle.std.specs.Prelude.{Option, Some, None}
+use Rattle.std.specs.Prelude.{Option, Some, None, Result, Ok, Err}
 use Rattle.std.specs.Prelude.{ℕ, Result, Ok, Err}
+use Rattle.panel_print.specs.declared.PrintRefusal.{PrintRefusal}
 use Rattle.spec_patch.specs.Write.{write_number}
 use Rattle.spec_page.specs.Page.{page_number}
 use Rattle.spec_import.specs.Import.{import_number}
@@ -11,8 +12,6 @@ use Rattle.panel_page.specs.PageTable as page
 use Rattle.panel_page.specs.declared.PageAnswer.{PageAnswer}
 use Rattle.panel_page.specs.declared.PageAnswer.TheVariants as page-answer
 use Rattle.panel_print.specs.Answers.{print_number}
-use Rattle.panel_print.specs.declared.PrintAnswer.{PrintAnswer}
-use Rattle.panel_print.specs.declared.PrintAnswer.TheVariants as print-answer
 use Rattle.patch_import.specs.Answers.{import_refusal_of}
 use Rattle.patch_import.specs.declared.answer.ImportRefusal.{ImportRefusal}
 use Rattle.patch_converter.specs.Answers.{conversion_refusal_of}
@@ -46,11 +45,11 @@ abbrev pub listing_told : Option (Result ℕ WriteRefusal) → GeysertrayCount
 listing_told (Some w) = written_to w
 listing_told None = not_counted 3
 
-abbrev pub print_to : PrintAnswer → GeysertrayCount
-print_to (print-answer.Wrote n) = counted_to n
-print_to (print-answer.Refused f) = refused_to (print_number f)
+abbrev pub print_to : Result ℕ PrintRefusal → GeysertrayCount
+print_to (Ok n) = counted_to n
+print_to (Err f) = refused_to (print_number f)
 
-abbrev pub print_told : Option PrintAnswer → GeysertrayCount
+abbrev pub print_told : Option (Result ℕ PrintRefusal) → GeysertrayCount
 print_told (Some a) = print_to a
 print_told None = not_counted 3
 

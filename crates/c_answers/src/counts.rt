@@ -3,7 +3,7 @@ ghost use Rattle.std.specs.Prelude.{◌≡◌};
 ghost use Rattle.c_answers.specs.Counts.{counted_to, refused_to, not_counted, count_told, written_to, listing_told, print_to, print_told, page_to, page_told, import_told, conversion_told};
 
 use panel_page::PageAnswer;
-use panel_print::PrintAnswer;
+use panel_print::PrintRefusal;
 use patch_converter::ConversionRefusal;
 use patch_import::answer::ImportRefusal;
 use patch_part_writer::written::WriteRefusal;
@@ -76,16 +76,16 @@ pub fn listing_told(answer: Option<Result<usize, WriteRefusal>>) -> GeysertrayCo
     }
 }
 
-fn print_to(answer: PrintAnswer) -> GeysertrayCount
+fn print_to(answer: Result<usize, PrintRefusal>) -> GeysertrayCount
     ensures { result ≡ print_to answer }
 {
     match answer {
-        PrintAnswer::Wrote(n) => counted(n),
-        PrintAnswer::Refused(refusal) => refused(refusal.number()),
+        Ok(n) => counted(n),
+        Err(refusal) => refused(refusal.number()),
     }
 }
 
-pub fn print_told(answer: Option<PrintAnswer>) -> GeysertrayCount
+pub fn print_told(answer: Option<Result<usize, PrintRefusal>>) -> GeysertrayCount
     ensures { result ≡ print_told answer }
 {
     match answer {

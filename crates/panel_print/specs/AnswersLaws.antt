@@ -1,16 +1,15 @@
 -- A print that was made is written whole, or not at all.
-use Rattle.std.specs.Prelude.{ℕ, ◌+◌, ◌≤◌, ◌≡◌, refl, length, take, drop, Option, Some, None}
+use Rattle.std.specs.Prelude.{ℕ, ◌+◌, ◌≤◌, ◌≡◌, refl, length, take, drop, Option, Some, None, Result, Ok, Err}
 use Rattle.std.proofs.Common.{sym, ◌∙◌, arith, length-take}
 use Rattle.std.proofs.Math.Path.{ap}
 use Rattle.std.proofs.Math.Bool.{true, false}
 use mathlib.Core.List.{List}
+use Rattle.panel_print.specs.declared.PrintRefusal.{PrintRefusal}
 use Rattle.bytes_wire.specs.Write.{has_room, overwrite}
 use Rattle.bytes_wire.proofs.WriteLaws.{overwrite_refused, drop_past_overwrite}
 use Rattle.bytes_printer.specs.Prints.{Prints}
 use Rattle.bytes_printer.proofs.PrintsLaws.{whole_printed}
 use Rattle.panel_print.specs.declared.PrintRefusal.TheVariants.{OutputTooShort}
-use Rattle.panel_print.specs.declared.PrintAnswer.{PrintAnswer}
-use Rattle.panel_print.specs.declared.PrintAnswer.TheVariants.{Wrote, Refused}
 use Rattle.panel_print.specs.Answers.{PrintedWhole, print_answer}
 
 -- what fits is printed whole
@@ -36,17 +35,17 @@ module _ {text : List ℕ} {end : Option ℕ} {print : List ℕ} (h : PrintedWho
 -- ---- what was written
 
 -- what the contract says of an output
-abbrev pub PrintLeft : (out print after : List ℕ) → PrintAnswer → Type 0
+abbrev pub PrintLeft : (out print after : List ℕ) → Result ℕ PrintRefusal → Type 0
 PrintLeft out print after r = (r ≡ print_answer out print) × (after ≡ overwrite out 0 print)
 
 module _ (out part after : List ℕ) (is : after ≡ overwrite out 0 part) where
-  pub print_written : has_room out 0 (length part) ≡ true → (print : List ℕ) → part ≡ print → (n : ℕ) → n ≡ length print → PrintLeft out print after (Wrote n)
+  pub print_written : has_room out 0 (length part) ≡ true → (print : List ℕ) → part ≡ print → (n : ℕ) → n ≡ length print → PrintLeft out print after (Ok n)
   unfolding print_answer
   print_written room print same n long =
       let fits : has_room out 0 (length print) ≡ true = ap (λ (l : List ℕ). has_room out 0 (length l)) (sym same) ∙ room in
-      (ap Wrote long ∙ rw fits, is ∙ ap (overwrite out 0) same)
+      (ap Ok long ∙ rw fits, is ∙ ap (overwrite out 0) same)
 
-  pub print_refused : has_room out 0 (length part) ≡ false → (print : List ℕ) → part ≡ print → PrintLeft out print after (Refused OutputTooShort)
+  pub print_refused : has_room out 0 (length part) ≡ false → (print : List ℕ) → part ≡ print → PrintLeft out print after (Err OutputTooShort)
   unfolding print_answer
   print_refused full print same =
       let none : has_room out 0 (length print) ≡ false = ap (λ (l : List ℕ). has_room out 0 (length l)) (sym same) ∙ full in

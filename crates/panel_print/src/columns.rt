@@ -4,7 +4,6 @@ ghost use Rattle.spec_panel_print.specs.Print.{text_width, blank, line_end, blan
 ghost use Rattle.bytes_printer.specs.Prints.{Prints};
 ghost use Rattle.panel_print.specs.ByteFlow.{begins_character, column_after, broken_byte, flowed_bytes};
 
-
 const TEXT_WIDTH: usize = 58;
 
 const LEAD_WIDTH: usize = 22;
@@ -33,23 +32,18 @@ fn print_line_break(out: &mut [u8], at: Option<usize>) -> Option<usize>
 fn begins_character(byte: u8) -> bool
     ensures { result ≡ begins_character byte }
 {
-    if byte < 0x80 {
-        return true;
-    }
-    0xc0 <= byte
+    byte < 0x80 || 0xc0 <= byte
 }
 
 // A control character is shown as a full stop.
 fn shown_byte(byte: u8) -> u8
     ensures { result ≡ printed_character byte }
 {
-    if byte < SPACE {
-        return FULL_STOP;
+    match byte {
+        DELETE => FULL_STOP,
+        _ if byte < SPACE => FULL_STOP,
+        _ => byte,
     }
-    if byte == DELETE {
-        return FULL_STOP;
-    }
-    byte
 }
 
 fn column_after(column: usize, byte: u8) -> usize
@@ -57,13 +51,13 @@ fn column_after(column: usize, byte: u8) -> usize
     ensures after { result ≡ column_after column byte }
     ensures within { result ≤ text_width }
 {
-    if begins_character(byte) {
-        if column == TEXT_WIDTH {
-            return 1;
-        }
-        return column + 1;
+    if !begins_character(byte) {
+        column
+    } else if column == TEXT_WIDTH {
+        1
+    } else {
+        column + 1
     }
-    column
 }
 
 // Prints a byte, behind a line break if it begins a character and the line is full.
@@ -87,12 +81,9 @@ pub(crate) fn print_columns(out: &mut [u8], from: Option<usize>, bytes: &[u8]) -
 {
     let mut at = from;
     let mut column: usize = 0;
-    let mut i: usize = 0;
-    while i < bytes.len() {
-        let byte = bytes[i];
+    for &byte in bytes {
         at = print_broken_byte(out, at, column, byte);
         column = column_after(column, byte);
-        i += 1;
     }
     let padded = print_spaces(out, at, TEXT_WIDTH - column);
     bytes_printer::print_newline(out, padded)

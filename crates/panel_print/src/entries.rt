@@ -35,29 +35,22 @@ fn print_key(out: &mut [u8], at: Option<usize>, key: u64) -> Option<usize>
 fn quad_letter(number: u8) -> u8
     ensures { result ≡ letter_of number }
 {
-    if number == 0 {
-        return 78;
+    match number {
+        0 => b'N',
+        1 => b'F',
+        2 => b'T',
+        _ => b'S',
     }
-    if number == 1 {
-        return 70;
-    }
-    if number == 2 {
-        return 84;
-    }
-    83
 }
 
 fn print_scalar(out: &mut [u8], value: ValueLookup) -> Option<usize>
     ensures { Prints out.old (Some 0) (scalar_bytes value) out.new result }
 {
-    let start = Some(0);
-    if value.kind == 1 {
-        return bytes_printer::print_byte(out, start, quad_letter(value.quad));
+    match value.kind {
+        1 => bytes_printer::print_byte(out, Some(0), quad_letter(value.quad)),
+        2 => bytes_printer::print_i64(out, Some(0), value.signed),
+        _ => bytes_printer::print_u64(out, Some(0), value.unsigned),
     }
-    if value.kind == 2 {
-        return bytes_printer::print_i64(out, start, value.signed);
-    }
-    bytes_printer::print_u64(out, start, value.unsigned)
 }
 
 fn print_value(out: &mut [u8], at: Option<usize>, value: ValueLookup) -> Option<usize>
@@ -94,7 +87,7 @@ fn print_row(out: &mut [u8], at: Option<usize>, row: &[u8], collection: u64) -> 
     print_entry(out, at, row)
 }
 
-// The lines of a collection's entries. A table that is too short for its count answers NoRoom.
+// The lines of a collection's entries. A table that is too short for its count answers None.
 pub(crate) fn print_rows(
     out: &mut [u8],
     from: Option<usize>,
@@ -110,11 +103,9 @@ pub(crate) fn print_rows(
         return None;
     }
     let mut at = from;
-    let mut i: usize = 0;
-    while i < count {
+    for i in 0..count {
         let row = bytes_records::record_at(table, width, count, i);
         at = print_row(out, at, row, collection);
-        i += 1;
     }
     at
 }

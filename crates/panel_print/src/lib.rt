@@ -23,7 +23,7 @@ const ENTRY_PRINT_BYTES: usize = 126 + ProjectionPatchValue::TEXT_BYTES;
 // The longest print of a collection: that of every entry that a panel can hold. `print_fits` proves that it holds every print.
 pub const PRINT_BYTES: usize = LocalProjectionState::ENTRIES * ENTRY_PRINT_BYTES;
 
-#[derive(Drop)]
+#[derive(Clone, Copy)]
 pub enum PrintRefusal {
     OutputTooShort,
 }
@@ -39,40 +39,34 @@ impl PrintRefusal {
     }
 }
 
-// Wrote gives the number of bytes.
-#[derive(Drop)]
-pub enum PrintAnswer {
-    Wrote(usize),
-    Refused(PrintRefusal),
-}
-
-// Writes what was printed from the start of text up to a position.
-fn write_print(text: &[u8], end: Option<usize>, out: &mut [u8]) -> PrintAnswer
+// Writes what was printed from the start of text up to a position, and answers how many bytes these are.
+fn write_print(text: &[u8], end: Option<usize>, out: &mut [u8]) -> Result<usize, PrintRefusal>
     ensures printed { (print : List ℕ) → PrintedWhole text.now end print
         → (result ≡ print_answer out.old print) × (out.new ≡ overwrite out.old 0 print) }
     ensures kept { OthersKept out.old out.new result }
 {
-    let Some(len) = end else {
-        return PrintAnswer::Refused(PrintRefusal::OutputTooShort);
-    };
-    if text.len() < len {
-        return PrintAnswer::Refused(PrintRefusal::OutputTooShort);
+    let len = end.ok_or(PrintRefusal::OutputTooShort)?;
+    let print = text.get(..len).ok_or(PrintRefusal::OutputTooShort)?;
+    if bytes_wire::write_bytes_at(out, 0, print) {
+        Ok(len)
+    } else {
+        Err(PrintRefusal::OutputTooShort)
     }
-    if bytes_wire::write_bytes_at(out, 0, &text[0..len]) {
-        return PrintAnswer::Wrote(len);
-    }
-    PrintAnswer::Refused(PrintRefusal::OutputTooShort)
 }
 
 // Prints a collection of a table of entries from the start of the output on. What is behind the print stays; a refusal leaves every byte.
 // Of a table that stores no projection it writes some lines, or answers 14.
-pub fn print_collection(table: &[u8], count: usize, collection: u64, out: &mut [u8]) -> PrintAnswer
+pub fn print_collection(
+    table: &[u8],
+    count: usize,
+    collection: u64,
+    out: &mut [u8],
+) -> Result<usize, PrintRefusal>
     ensures printed { (p : Projection) → Stored entry_row entry_width projection_entries count table.now p.entries → Valid p
         → (result ≡ print_answer out.old (collection_print p collection)) × (out.new ≡ overwrite out.old 0 (collection_print p collection)) }
     ensures kept { OthersKept out.old out.new result }
 {
     let mut text = [0u8; PRINT_BYTES];
-    let start = Some(0);
-    let end = entries::print_rows(&mut text, start, table, count, collection);
+    let end = entries::print_rows(&mut text, Some(0), table, count, collection);
     write_print(&text, end, out)
 }

@@ -8,7 +8,7 @@ use borrow.Author.Tests.{leb-false, le-leb, lt-leb}
 use lib.Dec.{leb}
 use lib.ListN.{length, take, drop, length-append}
 use lib.Seq.{take_at}
-use Rattle.std.specs.Prelude.{if◌then◌else◌}
+use Rattle.std.specs.Prelude.{if◌then◌else◌, Result, Ok, Err}
 use Rattle.spec_decimal.specs.Decimal.{decimal}
 use Rattle.spec_listing.specs.Listing.{fields}
 use Rattle.spec_replay.specs.Answers.{print_lines}
@@ -17,8 +17,6 @@ use Rattle.bytes_wire.proofs.WriteLaws.{room_true, has_room_lem, overwrite_in_pl
 use Rattle.panel_print.specs.Answers.{print_number, print_answer}
 use Rattle.panel_print.specs.declared.PrintRefusal.{PrintRefusal}
 use Rattle.panel_print.specs.declared.PrintRefusal.TheVariants.{OutputTooShort}
-use Rattle.panel_print.specs.declared.PrintAnswer.{PrintAnswer}
-use Rattle.panel_print.specs.declared.PrintAnswer.TheVariants.{Wrote, Refused}
 use Rattle.script_answers.specs.PrintTold.{PrintTold}
 
 abbrev paper : List ℕ → List ℕ
@@ -36,13 +34,13 @@ print_over room print h = rw h
 
 -- ---- by the answer
 
-module _ (lent print : List ℕ) (answer : PrintAnswer) (output : List ℕ) (h : PrintTold lent print answer output) where
-  module _ (n : ℕ) (is : answer ≡ Wrote n) where
+module _ (lent print : List ℕ) (answer : Result ℕ PrintRefusal) (output : List ℕ) (h : PrintTold lent print answer output) where
+  module _ (n : ℕ) (is : answer ≡ Ok n) where
     all_wrote : (n ≡ length print) × (has_room lent 0 (length print) ≡ true)
     unfolding print_answer
     all_wrote = go (has_room lent 0 (length print)) refl (sym is ∙ h.answered)
       where
-        go : (t : Bool) → has_room lent 0 (length print) ≡ t → Wrote n ≡ (if t then Wrote (length print) else Refused OutputTooShort) → (n ≡ length print) × (has_room lent 0 (length print) ≡ true)
+        go : (t : Bool) → has_room lent 0 (length print) ≡ t → Ok n ≡ (if t then Ok (length print) else Err OutputTooShort) → (n ≡ length print) × (has_room lent 0 (length print) ≡ true)
         go true e q = (cc, e)
         go false e q = absurd (let z : ◌≡◌ {A = ℕ} 0 1 = cc in omega arith)
 
@@ -58,11 +56,11 @@ module _ (lent print : List ℕ) (answer : PrintAnswer) (output : List ℕ) (h :
         ap paper (ap (take (n - 0)) left ∙ take_at print (drop (0 + length print) lent) (n - 0) (sym same))
         ∙ print_fitting (length lent) print (omega (arith, room_true lent 0 (length print) all_wrote.1))
 
-  pub print_refused_lines : (f : PrintRefusal) → answer ≡ Refused f → 79 ∷ fields (decimal (print_number f) ∷ []) ≡ print_lines (length lent) print
+  pub print_refused_lines : (f : PrintRefusal) → answer ≡ Err f → 79 ∷ fields (decimal (print_number f) ∷ []) ≡ print_lines (length lent) print
   unfolding print_answer has_room
   print_refused_lines OutputTooShort is = go (has_room lent 0 (length print)) refl (sym is ∙ h.answered)
     where
-      go : (t : Bool) → has_room lent 0 (length print) ≡ t → Refused OutputTooShort ≡ (if t then Wrote (length print) else Refused OutputTooShort) → 79 ∷ fields (decimal 14 ∷ []) ≡ print_lines (length lent) print
+      go : (t : Bool) → has_room lent 0 (length print) ≡ t → Err OutputTooShort ≡ (if t then Ok (length print) else Err OutputTooShort) → 79 ∷ fields (decimal 14 ∷ []) ≡ print_lines (length lent) print
       go true e q = absurd (let z : ◌≡◌ {A = ℕ} 0 1 = cc in omega arith)
       go false e q =
           let over = leb-false (0 + length print) (length lent) e in

@@ -6,7 +6,7 @@ ghost use Rattle.spec_replay.specs.Answers.{print_lines};
 ghost use Rattle.bytes_printer.specs.Prints.{Prints};
 ghost use Rattle.script_answers.specs.PrintTold.{PrintTold};
 
-use panel_print::PrintAnswer;
+use panel_print::PrintRefusal;
 
 // O, 0 and the number of bytes; behind the newline these bytes as they are.
 fn print_paper(out: &mut [u8], at: Option<usize>, bytes: &[u8]) -> Option<usize>
@@ -20,18 +20,18 @@ fn print_paper(out: &mut [u8], at: Option<usize>, bytes: &[u8]) -> Option<usize>
 }
 
 // What a print answered and wrote.
-pub fn print_collection(out: &mut [u8], at: Option<usize>, answer: PrintAnswer, written: &[u8]) -> Option<usize>
+pub fn print_collection(out: &mut [u8], at: Option<usize>, answer: Result<usize, PrintRefusal>, written: &[u8]) -> Option<usize>
     ensures { (lent print : List ℕ) → PrintTold lent print answer written.now
         → Prints out.old at (print_lines (length lent) print) out.new result }
 {
     match answer {
-        PrintAnswer::Wrote(len) => {
+        Ok(len) => {
             if written.len() < len {
                 return None;
             }
             print_paper(out, at, &written[0..len])
         }
-        PrintAnswer::Refused(refusal) => {
+        Err(refusal) => {
             listing_lines::print_number_line(out, at, 79, refusal.number())
         }
     }

@@ -1,7 +1,8 @@
 -- What the calls that read a lent session answer, for any slices whatever and for those that hold a session. A call is lent the slices that it
 -- reads, and no others.
-use Rattle.std.specs.Prelude.{Option, Some, None}
+use Rattle.std.specs.Prelude.{Option, Some, None, Result}
 use Rattle.std.specs.Prelude.{ℕ, ◌/◌, ◌≡◌, Bool, true, false, List, length, if◌then◌else◌}
+use Rattle.panel_print.specs.declared.PrintRefusal.{PrintRefusal}
 use Rattle.spec_patch.specs.Sizes.{projection_entries}
 use Rattle.spec_projection.specs.Lookups.{binding_of, binding_mark, availability_of, availability_mark, entry_of, entry_mark, entry_at, entry_count}
 use Rattle.spec_session.specs.Session.{Session}
@@ -15,7 +16,6 @@ use Rattle.panel_rows.specs.declared.values.ValueLookup.{ValueLookup}
 use Rattle.panel_lookups.specs.Nth.{entry_lookup}
 use Rattle.panel_lookups.specs.declared.positions.EntryLookup.{EntryLookup}
 use Rattle.panel_print.specs.Answers.{print_answer, OthersKept}
-use Rattle.panel_print.specs.declared.PrintAnswer.{PrintAnswer}
 use Rattle.panel_page.specs.PageTable as page
 use Rattle.panel_page.specs.PageTable.{page_width, page_bytes, page_answer}
 use Rattle.listing_panel.specs.Written.{Writes, KeptLines}
@@ -114,7 +114,7 @@ ListingCall head bindings availability entries out r out' =
     ViewWritten (half_shaped head (length bindings) (length availability) (length entries)) (HoldsTables head bindings availability entries) (KeptLines out out') (λ m w. Writes out (projection_lines m.projection) out' w) out r out'
 
 -- the print of a collection, whole or 14
-abbrev pub PrintCall : (head entries : List ℕ) (collection : ℕ) (out : List ℕ) → Option PrintAnswer → List ℕ → Type 0
+abbrev pub PrintCall : (head entries : List ℕ) (collection : ℕ) (out : List ℕ) → Option (Result ℕ PrintRefusal) → List ℕ → Type 0
 PrintCall head entries collection out r out' =
     ViewWritten (entries_shaped head (length entries)) (HoldsEntries head entries) (OthersKept out out')
     (λ m w. (w ≡ print_answer out (collection_print m.projection collection)) × (out' ≡ overwrite out 0 (collection_print m.projection collection))) out r out'

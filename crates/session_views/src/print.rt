@@ -6,12 +6,12 @@ ghost use Rattle.bytes_wire.specs.Write.{overwrite};
 ghost use Rattle.panel_print.specs.Answers.{print_answer, OthersKept};
 ghost use Rattle.shell_player.specs.Holds.{Holds};
 
-use panel_print::PrintAnswer;
+use panel_print::PrintRefusal;
 use shell_player::session::ShellSession;
 
 // From the start of the output on, whole or not at all. What is behind the print stays; a refusal leaves every byte. A closed session prints as
 // any other.
-pub fn print_collection(session: ShellSession, collection: u64, out: &mut [u8]) -> PrintAnswer
+pub fn print_collection(session: ShellSession, collection: u64, out: &mut [u8]) -> Result<usize, PrintRefusal>
     ensures printed { (m : Session) → Holds session m
         → (result ≡ print_answer out.old (collection_print m.projection collection)) × (out.new ≡ overwrite out.old 0 (collection_print m.projection collection)) }
     ensures kept { OthersKept out.old out.new result }

@@ -1,4 +1,4 @@
--- `entries::print_rows` meets its contract. The invariant: what the first i rows add is printed. The measure is the rows left.
+-- `entries::print_rows` meets its contract. The invariant: what the first i rows add is printed.
 use Prim.Native.Nat.{◌-◌, ◌≤◌, ◌<◌}
 use mathlib.Core.Path.{◌≡◌, refl, ◌∙◌}
 use mathlib.Core.List.{List, map, flat_map}
@@ -22,24 +22,16 @@ pub returns-then-table-width : goal.returns-then-table-width
 returns-then-table-width c = λ es fit t w. absurd (not_too_many t (omega arith) c.if-table-width.true)
 
 pub loop-i-init : goal.loop-i-init
-loop-i-init c = (omega arith, (refl, λ es fit t w. lines_start (row_print c.args.collection) es w))
+loop-i-init c = λ es fit t w. lines_start (row_print c.args.collection) es w
 
 pub loop-i-preserved : goal.loop-i-preserved
-loop-i-preserved c = (
-  search rules,
-  (
-    search rules,
+loop-i-preserved c =
     λ es fit t w.
-        let inside : c.loop-i.i < length es = omega (arith, holds_length entry_row es t) in
-        let before = c.loop-i.invariant.1.1 es fit t w in
-        lines_turn (row_print c.args.collection) es c.loop-i.i no_entry inside before
-        (c.print_row-at.ensures (get_or es c.loop-i.i no_entry) (fits_at es c.loop-i.i no_entry inside fit) (c.record_at-row.ensures.row (map entry_row es) t ∙ row_at_entry es c.loop-i.i no_entry inside) (ends_within before)),
-  ),
-)
-
-pub shape_of-out : goal.shape_of-out
-shape_of-out c = c.loop-i.invariant.1.0
+    let inside : c.loop-i.i < length es = omega (arith, holds_length entry_row es t) in
+    let before = c.loop-i.invariant es fit t w in
+    lines_turn (row_print c.args.collection) es c.loop-i.i no_entry inside before
+    (c.print_row-at.ensures (get_or es c.loop-i.i no_entry) (fits_at es c.loop-i.i no_entry inside fit) (c.record_at-row.ensures.row (map entry_row es) t ∙ row_at_entry es c.loop-i.i no_entry inside) (ends_within before))
 
 pub returns : goal.returns
 returns c =
-    λ es fit t w. lines_end (row_print c.args.collection) es c.loop-i.i (omega (arith, holds_length entry_row es t)) (c.loop-i.invariant.1.1 es fit t w)
+    λ es fit t w. lines_end (row_print c.args.collection) es c.loop-i.i (omega (arith, holds_length entry_row es t)) (c.loop-i.invariant es fit t w)

@@ -19,7 +19,4 @@ use Rattle.panel_print.proofs.entries.print_rows.Given as goal
 
 abbrev pub invariant-loop-i : goal.invariant-loop-i
 invariant-loop-i l =
-    (l.i ≤ l.count) × ((length l.out ≡ length l.initial.out) × ((es : List Entry) → All FitsEntry es → HoldsRows entry_width l.count l.table (map entry_row es) → Within l.initial.out l.initial.at → Prints l.initial.out l.initial.at (flat_map (row_print l.collection) (take l.i es)) l.out l.at))
-
-abbrev pub decreases-loop-i : goal.decreases-loop-i
-decreases-loop-i l = l.count - l.i
+    (es : List Entry) → All FitsEntry es → HoldsRows entry_width l.count l.table (map entry_row es) → Within l.initial.out l.initial.at → Prints l.initial.out l.initial.at (flat_map (row_print l.collection) (take l.i es)) l.out l.at

@@ -2,6 +2,7 @@
 use Prim.Native.Nat.{ℕ}
 use mathlib.Core.Path.{sym, ap, ◌∙◌}
 use mathlib.Core.List.{[], ◌∷◌}
+use native.Mathlib.Omega.{arith}
 use mir.Syntax.{w64}
 use mir.Facts.{to_z-of_z}
 use borrow.Author.Rules.{rules, sfits_of}
@@ -10,15 +11,15 @@ use Rattle.bytes_printer.proofs.PrintsLaws.{prints_same}
 use Rattle.panel_print.specs.LookupBytesLaws.{quad_bytes, signed_bytes, unsigned_bytes}
 use Rattle.panel_print.proofs.entries.print_scalar.Goals as goal
 
-pub returns-then-value-eq1 : goal.returns-then-value-eq1
-returns-then-value-eq1 c =
-    prints_same (ap (λ (b : ℕ). b ∷ []) c.quad_letter.ensures ∙ sym (quad_bytes c.args.value c.if-value-eq1.true)) c.print_byte.ensures
+pub returns-in-1 : goal.returns-in-1
+returns-in-1 c =
+    prints_same (ap (λ (b : ℕ). b ∷ []) c.quad_letter.ensures ∙ sym (quad_bytes c.args.value c.in-1.is)) c.print_byte.ensures
 
-pub returns-then-value-eq2 : goal.returns-then-value-eq2
-returns-then-value-eq2 c =
+pub returns-in-2 : goal.returns-in-2
+returns-in-2 c =
     let same = to_z-of_z {w = w64} (search rules) in
-    prints_same (ap signed_decimal same ∙ sym (signed_bytes c.args.value c.if-value-eq1.false c.if-value-eq2.true)) c.print_i64.ensures
+    prints_same (ap signed_decimal same ∙ sym (signed_bytes c.args.value (λ e. omega (arith, c.in-2.is)) c.in-2.is)) c.print_i64.ensures
 
-pub returns : goal.returns
-returns c =
-    prints_same (sym (unsigned_bytes c.args.value c.if-value-eq1.false c.if-value-eq2.false)) c.print_u64.ensures
+pub returns-in_default : goal.returns-in_default
+returns-in_default c =
+    prints_same (sym (unsigned_bytes c.args.value (search c.in_default.in_default-own.rest) (search c.in_default.in_default-own.rest))) c.print_u64.ensures

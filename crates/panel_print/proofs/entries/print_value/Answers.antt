@@ -15,11 +15,11 @@ pub returns-then-value-eq3 : goal.returns-then-value-eq3
 returns-then-value-eq3 c =
     prints_same (ap (flowed_bytes 0) (c.key_part.ensures ∙ sym (text_bytes_lem c.args.value c.if-value-eq3.true))) c.print_columns.ensures
 
-pub returns-in_default : goal.returns-in_default
-returns-in_default c =
-    absurd (some_end (printed_whole c.print_scalar.ensures (omega (arith, scalar_few c.args.value, length-replicate {A = ℕ} scalar_most 0))) c.in_default.is)
+pub returns-in_err-len : goal.returns-in_err-len
+returns-in_err-len c =
+    absurd (some_end (printed_whole c.print_scalar.ensures (omega (arith, scalar_few c.args.value, length-replicate {A = ℕ} scalar_most 0))) c.in_err-len.was)
 
 pub returns : goal.returns
 returns c =
     let made = printed_whole c.print_scalar.ensures (omega (arith, scalar_few c.args.value, length-replicate {A = ℕ} scalar_most 0)) in
-    prints_same (ap (flowed_bytes 0) (c.key_part-2.ensures ∙ whole_part made c.in-Some.len c.in-Some.is _ refl ∙ sym (no_text_bytes c.args.value c.if-value-eq3.false))) c.print_columns-2.ensures
+    prints_same (ap (flowed_bytes 0) (c.key_part-2.ensures ∙ whole_part made c.in_ok-len.len c.in_ok-len.was _ refl ∙ sym (no_text_bytes c.args.value c.if-value-eq3.false))) c.print_columns-2.ensures

@@ -1,20 +1,21 @@
--- `entries::quad_letter` meets its contract: the tests are those of the definition.
+-- `entries::quad_letter` meets its contract: the cases are those of the definition.
+use borrow.Author.Rules.{rules}
 use borrow.Author.Tests.{eq-eqb, ne_eqb}
 use Rattle.panel_print.specs.LookupBytes.{letter_of}
 use Rattle.panel_print.proofs.entries.quad_letter.Goals as goal
 
-pub returns-then-number-eq0 : goal.returns-then-number-eq0
+pub returns-in-0 : goal.returns-in-0
 unfolding letter_of
-returns-then-number-eq0 c = rw (eq-eqb _ 0 c.if-number-eq0.true)
+returns-in-0 c = rw c.in-0.is
 
-pub returns-then-number-eq1 : goal.returns-then-number-eq1
+pub returns-in-1 : goal.returns-in-1
 unfolding letter_of
-returns-then-number-eq1 c = rw (ne_eqb _ 0 c.if-number-eq0.false, eq-eqb _ 1 c.if-number-eq1.true)
+returns-in-1 c = rw c.in-1.is
 
-pub returns-then-number-eq2 : goal.returns-then-number-eq2
+pub returns-in-2 : goal.returns-in-2
 unfolding letter_of
-returns-then-number-eq2 c = rw (ne_eqb _ 0 c.if-number-eq0.false, ne_eqb _ 1 c.if-number-eq1.false, eq-eqb _ 2 c.if-number-eq2.true)
+returns-in-2 c = rw c.in-2.is
 
-pub returns : goal.returns
+pub returns-in_default : goal.returns-in_default
 unfolding letter_of
-returns c = rw (ne_eqb _ 0 c.if-number-eq0.false, ne_eqb _ 1 c.if-number-eq1.false, ne_eqb _ 2 c.if-number-eq2.false)
+returns-in_default c = rw (ne_eqb c.args.number 0 (search c.in_default.in_default-own.rest), ne_eqb c.args.number 1 (search c.in_default.in_default-own.rest), ne_eqb c.args.number 2 (search c.in_default.in_default-own.rest))

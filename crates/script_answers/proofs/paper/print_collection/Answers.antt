@@ -12,13 +12,13 @@ use Rattle.script_answers.proofs.paper.print_collection.Goals as goal
 
 pub returns-then-written-len : goal.returns-then-written-len
 returns-then-written-len c =
-    λ lent print h. absurd (omega (arith, print_wrote_within lent print c.args.answer c.args.written.now h _ c.in-Wrote.is, c.if-written-len.true))
+    λ lent print h. absurd (omega (arith, print_wrote_within lent print c.args.answer c.args.written.now h _ c.in-Ok.is, c.if-written-len.true))
 
 pub returns-else-written-len : goal.returns-else-written-len
 returns-else-written-len c =
-    λ lent print h. prints_same (print_wrote_lines lent print c.args.answer c.args.written.now h _ c.in-Wrote.is) c.print_paper.ensures
+    λ lent print h. prints_same (print_wrote_lines lent print c.args.answer c.args.written.now h _ c.in-Ok.is) c.print_paper.ensures
 
-pub returns-in-Refused : goal.returns-in-Refused
-returns-in-Refused c =
+pub returns-in-Err : goal.returns-in-Err
+returns-in-Err c =
     let number = ap (λ (n : ℕ). 79 ∷ fields (decimal n ∷ [])) c.number.ensures in
-    λ lent print h. prints_same (number ∙ print_refused_lines lent print c.args.answer c.args.written.now h _ c.in-Refused.is) c.print_number_line.ensures
+    λ lent print h. prints_same (number ∙ print_refused_lines lent print c.args.answer c.args.written.now h _ c.in-Err.is) c.print_number_line.ensures
