@@ -2,7 +2,7 @@
 ghost use Rattle.std.specs.Prelude.{◌≡◌};
 
 // A revision of a projection.
-#[derive(Clone, Copy)]
+#[derive(Clone, Copy, PartialEq, Eq)]
 pub struct Revision(u64);
 
 impl Revision {
@@ -20,7 +20,7 @@ impl Revision {
 }
 
 // An epoch of a stream.
-#[derive(Clone, Copy)]
+#[derive(Clone, Copy, PartialEq, Eq)]
 pub struct Epoch(u64);
 
 impl Epoch {
@@ -38,7 +38,7 @@ impl Epoch {
 }
 
 // A document.
-#[derive(Clone, Copy)]
+#[derive(Clone, Copy, PartialEq, Eq)]
 pub struct StaticDocumentId(u64);
 
 impl StaticDocumentId {
@@ -56,7 +56,7 @@ impl StaticDocumentId {
 }
 
 // A surface of a document.
-#[derive(Clone, Copy)]
+#[derive(Clone, Copy, PartialEq, Eq)]
 pub struct StaticSurfaceId(u64);
 
 impl StaticSurfaceId {
@@ -74,7 +74,7 @@ impl StaticSurfaceId {
 }
 
 // A node, or a collection.
-#[derive(Clone, Copy)]
+#[derive(Clone, Copy, PartialEq, Eq)]
 pub struct StaticNodeId(u64);
 
 impl StaticNodeId {
@@ -92,7 +92,7 @@ impl StaticNodeId {
 }
 
 // The key of an entry in its collection.
-#[derive(Clone, Copy)]
+#[derive(Clone, Copy, PartialEq, Eq)]
 pub struct CollectionKey(u64);
 
 impl CollectionKey {

@@ -11,7 +11,7 @@ use crate::contract_primitives::{
 use crate::read_values::ProjectionPatchReadFault;
 
 // A patch; finding 13 reports 0.
-#[derive(Clone, Copy)]
+#[derive(Clone, Copy, PartialEq, Eq)]
 pub struct ProjectionPatchId(u64);
 
 impl ProjectionPatchId {
@@ -29,7 +29,7 @@ impl ProjectionPatchId {
 }
 
 // A stream of patches; finding 14 reports 0.
-#[derive(Clone, Copy)]
+#[derive(Clone, Copy, PartialEq, Eq)]
 pub struct ProjectionPatchStreamId(u64);
 
 impl ProjectionPatchStreamId {
@@ -47,7 +47,7 @@ impl ProjectionPatchStreamId {
 }
 
 // A patch's place in its stream.
-#[derive(Clone, Copy)]
+#[derive(Clone, Copy, PartialEq, Eq)]
 pub struct ProjectionPatchSequence(u64);
 
 impl ProjectionPatchSequence {
@@ -84,6 +84,7 @@ pub enum ProjectionPatchEdition {
 }
 
 impl ProjectionPatchEdition {
+    #[tactic(auto, unfolding(spec_patch::specs::Edition::has_kind, spec_patch::specs::Edition::kinds, spec_patch::specs::Edition::added_kinds))]
     pub fn has_scores(self) -> bool
         ensures { result ≡ has_kind (edition_of self) 5 }
     {
@@ -107,6 +108,7 @@ impl TryFrom<u8> for ProjectionQuadState {
 
     ghost try_from_gives = { λ tag answer. answer ≡ quad_tag_answer tag };
 
+    #[tactic(auto, unfolding(spec_patch::specs::Read::quad_after))]
     fn try_from(tag: u8) -> Result<ProjectionQuadState, ProjectionPatchReadFault> {
         match tag {
             0 => Ok(ProjectionQuadState::N),
@@ -142,6 +144,7 @@ impl TryFrom<u8> for ProjectionNodeAvailability {
 
     ghost try_from_gives = { λ tag answer. answer ≡ availability_tag_answer tag };
 
+    #[tactic(auto, unfolding(spec_patch::specs::Read::availability_after))]
     fn try_from(tag: u8) -> Result<ProjectionNodeAvailability, ProjectionPatchReadFault> {
         match tag {
             0 => Ok(ProjectionNodeAvailability::Available),

@@ -24,6 +24,7 @@ pub enum ProjectionPatchReadFault {
 
 impl ProjectionPatchReadFault {
     // The number of a refusal.
+    #[tactic(auto, unfolding(spec_patch::specs::Reader::fault_number))]
     pub fn number(self) -> u64
         ensures { result ≡ fault_number (fault_of self) }
     {
