@@ -61,6 +61,7 @@ pub fn read_patch_head(part: &[u8]) -> Result<(ProjectionPatch, usize), Projecti
     ))
 }
 
+#[tactic(auto, unfolding(spec_patch::specs::Edition::letters, spec_patch::specs::Edition::edition_digit))]
 fn has_letters(set: &[u8], edition: ProjectionPatchEdition) -> bool
     ensures { result ≡ starts_with (letters (edition_of edition)) (drop 4 set.now) }
 {

@@ -106,6 +106,7 @@ fn head_step(set: &[u8], cursor: SetCursor) -> Result<SetStep, ProjectionPatchRe
 }
 
 // What stands at a cursor. Texts are checked where the walk is strict.
+#[tactic(auto, unfolding(crate::specs::Steps::step_answer))]
 pub fn next_step(
     set: &[u8],
     cursor: SetCursor,
