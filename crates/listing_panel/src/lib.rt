@@ -47,8 +47,7 @@ pub fn write_tables(
     ensures kept { KeptLines out.old out.new result }
 {
     let mut text = [0u8; LISTING_BYTES];
-    let start = Some(0);
-    let end = tables::print_tables(&mut text, start, bindings, availability, entries, counts);
+    let end = tables::print_tables(&mut text, Some(0), bindings, availability, entries, counts);
     write_lines(&text, end, out)
 }
 
@@ -89,7 +88,6 @@ pub fn write_listing(set: &[u8], edition: ProjectionPatchEdition, out: &mut [u8]
     ensures { Writes out.old (listing (edition_of edition) set.now) out.new result }
 {
     let mut text = [0u8; LISTING_BYTES];
-    let start = Some(0);
-    let end = print_listing(&mut text, start, set, edition);
+    let end = print_listing(&mut text, Some(0), set, edition);
     write_lines(&text, end, out)
 }

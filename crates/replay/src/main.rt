@@ -135,8 +135,7 @@ fn print_rest(rt: &impl Print, number: u64, kept: usize) -> io::Result<()> {
         return Ok(());
     }
     let mut out = [0u8; 32];
-    let start = Some(0);
-    let printed = script_answers::session::print_other(&mut out, start, number);
+    let printed = script_answers::session::print_other(&mut out, Some(0), number);
     let end = end_of_answer(printed, 0, 32);
     rt.write_all(&out[0..end])
 }

@@ -32,14 +32,12 @@ fn print_findings(out: &mut [u8], from: Option<usize>, records: &[u64], count: u
         return None;
     }
     let mut at = from;
-    let mut i: usize = 0;
-    while i < count {
+    for i in 0..count {
         let start = 3 * i;
         let kind = records[start];
         let domain = records[start + 1];
         let secondary = records[start + 2];
         at = print_finding(out, at, kind, domain, secondary);
-        i += 1;
     }
     at
 }

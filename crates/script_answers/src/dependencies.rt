@@ -29,13 +29,11 @@ fn print_keys(out: &mut [u8], from: Option<usize>, words: &[u64], count: usize) 
         return None;
     }
     let mut at = from;
-    let mut i: usize = 0;
-    while i < count {
+    for i in 0..count {
         let start = 2 * i;
         let collection = words[start];
         let key = words[start + 1];
         at = print_key(out, at, collection, key);
-        i += 1;
     }
     at
 }

@@ -38,12 +38,10 @@ fn print_rows(out: &mut [u8], from: Option<usize>, table: &[u8], count: usize) -
         return None;
     }
     let mut at = from;
-    let mut i: usize = 0;
-    while i < count {
+    for i in 0..count {
         let start = i * PageLookup::WIDTH;
         let lookup = PageLookup::read(&table[start..start + PageLookup::WIDTH]);
         at = print_row(out, at, lookup);
-        i += 1;
     }
     at
 }

@@ -27,8 +27,7 @@ pub fn apply(state: ReplayState, input: ShellTransitionInput, out: &mut [u8]) ->
         let session = state.session;
         let step = session_apply::applied_once(session, input);
         let result = step.result;
-        let start = Some(0);
-        let printed = session::print_lifecycle(out, start, result);
+        let printed = session::print_lifecycle(out, Some(0), result);
         let after = step.session;
         let next = state::with_latest(state, after);
         return ReplayStep {
@@ -56,8 +55,7 @@ pub fn apply_batch(
         let edition = state.edition;
         let step = session.apply_projection_patch_batch(envelope, references, set, edition);
         let result = step.result;
-        let start = Some(0);
-        let printed = session::print_batch(out, start, result);
+        let printed = session::print_batch(out, Some(0), result);
         let after = step.session;
         let next = state::with_latest(state, after);
         return ReplayStep {
@@ -117,8 +115,7 @@ pub fn create_latest(state: ReplayState, out: &mut [u8]) -> ReplayStep
     let setup = state.setup;
     let creation = create_session(setup);
     let answer = creation.answer;
-    let start = Some(0);
-    let printed = session::print_creation(out, start, answer);
+    let printed = session::print_creation(out, Some(0), answer);
     let session = creation.session;
     let exists = is_created(answer);
     let mut next = state;

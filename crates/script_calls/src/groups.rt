@@ -26,8 +26,7 @@ pub fn apply_group(
         let session = state.session;
         let step = session_group::apply_projection_patch_batches(session, batches, count, sets);
         let answer = step.answer;
-        let start = Some(0);
-        let printed = group::print_group(out, start, answer);
+        let printed = group::print_group(out, Some(0), answer);
         let after = step.session;
         let next = state::with_latest(state, after);
         return ReplayStep {

@@ -17,8 +17,7 @@ pub fn binding_mark(state: ReplayState, node: u64, slot: u32, out: &mut [u8]) ->
     if state.exists {
         let session = state.session;
         let lookup = session.binding_value(node, slot);
-        let start = Some(0);
-        let printed = value::print_mark(out, start, lookup.found, lookup.mark);
+        let printed = value::print_mark(out, Some(0), lookup.found, lookup.mark);
         return ReplayStep {
             state,
             printed,
@@ -36,8 +35,7 @@ pub fn availability_mark(state: ReplayState, node: u64, out: &mut [u8]) -> Repla
     if state.exists {
         let session = state.session;
         let lookup = session.node_availability(node);
-        let start = Some(0);
-        let printed = value::print_mark(out, start, lookup.found, lookup.mark);
+        let printed = value::print_mark(out, Some(0), lookup.found, lookup.mark);
         return ReplayStep {
             state,
             printed,
@@ -55,8 +53,7 @@ pub fn entry_mark(state: ReplayState, collection: u64, key: u64, out: &mut [u8])
     if state.exists {
         let session = state.session;
         let lookup = session.entry_value(collection, key);
-        let start = Some(0);
-        let printed = value::print_mark(out, start, lookup.found, lookup.mark);
+        let printed = value::print_mark(out, Some(0), lookup.found, lookup.mark);
         return ReplayStep {
             state,
             printed,

@@ -29,8 +29,7 @@ fn page_lent(
         → Prints out.old (Some 0) (page_lines (length keys.now) (page m.projection collection keys.now (replicate (length lent.old / page_width) none))) out.new result }
 {
     let answer = session_views::page::collection_page(session, collection, keys, lent);
-    let start = Some(0);
-    script_answers::page::print_page(out, start, answer, lent)
+    script_answers::page::print_page(out, Some(0), answer, lent)
 }
 
 // A page into so many places, all zero.

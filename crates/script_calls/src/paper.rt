@@ -29,8 +29,7 @@ fn print_lent(session: ShellSession, collection: u64, lent: &mut [u8], out: &mut
         → Prints out.old (Some 0) (print_lines (length lent.old) (collection_print m.projection collection)) out.new result }
 {
     let answer = session_views::print::print_collection(session, collection, lent);
-    let start = Some(0);
-    script_answers::paper::print_collection(out, start, answer, lent)
+    script_answers::paper::print_collection(out, Some(0), answer, lent)
 }
 
 // A print into so many bytes, all zero.

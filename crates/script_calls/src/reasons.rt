@@ -29,8 +29,7 @@ fn print_explained(
     let explanation = session_explain::batch::explain_batch(
         session, envelope, references, set, edition,
     );
-    let start = Some(0);
-    script_reasons::print_reason(out, start, explanation)
+    script_reasons::print_reason(out, Some(0), explanation)
 }
 
 // Why a batch with these arguments is refused, if it is; it is not sent.

@@ -50,8 +50,7 @@ pub fn with_turns(state: ReplayState, turns: SenderTurns) -> ReplayState
 pub fn no_session(state: ReplayState, out: &mut [u8]) -> ReplayStep
     ensures { (m : State) → ReplayHolds state m → ReplayStepped state out.old out.new result (onward m no_session_line) }
 {
-    let start = Some(0);
-    let printed = session::print_no_session(out, start);
+    let printed = session::print_no_session(out, Some(0));
     ReplayStep {
         state,
         printed,

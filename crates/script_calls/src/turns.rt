@@ -35,8 +35,7 @@ pub fn register(state: ReplayState, sender: u64, out: &mut [u8]) -> ReplayStep
     if 0 < own.senders {
         let step = own.register(sender as usize);
         let answer = step.answer;
-        let start = Some(0);
-        let printed = script_answers::turns::print_registration(out, start, answer);
+        let printed = script_answers::turns::print_registration(out, Some(0), answer);
         let waiting = step.turns;
         let next = state::with_turns(state, waiting);
         return ReplayStep {
@@ -57,8 +56,7 @@ fn turn_at(state: ReplayState, cursor: ProjectionReplayCursor, out: &mut [u8]) -
     if 0 < own.senders {
         let step = own.turn(cursor);
         let answer = step.answer;
-        let start = Some(0);
-        let printed = script_answers::turns::print_turn(out, start, answer);
+        let printed = script_answers::turns::print_turn(out, Some(0), answer);
         let spent = step.turns;
         let next = state::with_turns(state, spent);
         return ReplayStep {

@@ -18,8 +18,7 @@ pub fn show(state: ReplayState, out: &mut [u8]) -> ReplayStep
     if state.exists {
         let session = state.session;
         let projection = session.local_projection;
-        let start = Some(0);
-        let printed = listing_lines::tables::print_projection(out, start, projection);
+        let printed = listing_lines::tables::print_projection(out, Some(0), projection);
         return ReplayStep {
             state,
             printed,
@@ -37,8 +36,7 @@ pub fn binding_value(state: ReplayState, node: u64, slot: u32, out: &mut [u8]) -
     if state.exists {
         let session = state.session;
         let lookup = session.binding_value(node, slot);
-        let start = Some(0);
-        let printed = value::print_value(out, start, lookup);
+        let printed = value::print_value(out, Some(0), lookup);
         return ReplayStep {
             state,
             printed,
@@ -56,8 +54,7 @@ pub fn node_availability(state: ReplayState, node: u64, out: &mut [u8]) -> Repla
     if state.exists {
         let session = state.session;
         let lookup = session.node_availability(node);
-        let start = Some(0);
-        let printed = value::print_availability(out, start, lookup);
+        let printed = value::print_availability(out, Some(0), lookup);
         return ReplayStep {
             state,
             printed,
@@ -75,8 +72,7 @@ pub fn entry_value(state: ReplayState, collection: u64, key: u64, out: &mut [u8]
     if state.exists {
         let session = state.session;
         let lookup = session.entry_value(collection, key);
-        let start = Some(0);
-        let printed = value::print_value(out, start, lookup);
+        let printed = value::print_value(out, Some(0), lookup);
         return ReplayStep {
             state,
             printed,
@@ -94,8 +90,7 @@ pub fn collection_length(state: ReplayState, collection: u64, out: &mut [u8]) ->
     if state.exists {
         let session = state.session;
         let length = session.collection_length(collection);
-        let start = Some(0);
-        let printed = listing_lines::print_number_line(out, start, 90, length);
+        let printed = listing_lines::print_number_line(out, Some(0), 90, length);
         return ReplayStep {
             state,
             printed,

@@ -1,5 +1,5 @@
 -- The batches of a line are those that a call names.
-use Rattle.std.specs.Prelude.{ℕ, ◌+◌, ◌≤◌, ◌<◌, ◌≡◌, refl, Bool, true, false, List, [], ◌∷◌, ◌++◌, map, leb, length, take, set, get_or, if◌then◌else◌}
+use Rattle.std.specs.Prelude.{ℕ, ◌+◌, ◌≤◌, ◌<◌, ◌≡◌, refl, List, [], ◌∷◌, ◌++◌, map, leb, length, take, set, get_or, Option, Some, None}
 use Rattle.std.proofs.Common.{sym, ap, ap₂, ◌∙◌, add-one, arith, leb-true, leb-false, length-take, length-set, take-take, take_all, take-suc, take-suc-set, length-take-le}
 use Rattle.std.proofs.lemmas.List.{map-append, length-map}
 use Rattle.spec_lists.proofs.ListLaws.{map_take, test_cases}
@@ -75,9 +75,9 @@ names_members members batches count many same few = record {
 
 -- ---- what was read of a line
 
-module _ (line : List ℕ) (r : GroupFields) where
-  pub group_read : r.read ≡ true → group_then line r ≡ set_from line r.from (group (first_members r.count r.members))
-  group_read e = ap (λ (t : Bool). if t then set_from line r.from (group (first_members r.count r.members)) else other) e
+module _ (line : List ℕ) (r : Option GroupFields) where
+  pub group_read : (f : GroupFields) → r ≡ Some f → group_then line r ≡ set_from line f.from (group (first_members f.count f.members))
+  group_read f e = ap (group_then line) e
 
-  pub group_not_read : r.read ≡ false → group_then line r ≡ other
-  group_not_read e = ap (λ (t : Bool). if t then set_from line r.from (group (first_members r.count r.members)) else other) e
+  pub group_not_read : r ≡ None → group_then line r ≡ other
+  group_not_read e = ap (group_then line) e

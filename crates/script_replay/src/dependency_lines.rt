@@ -20,8 +20,7 @@ fn print_told(
     ensures { Prints out.old (Some 0) (dependency_lines (dependencies_of (edition_of edition) set.now lent.old)) out.new result }
 {
     let answer = set_dependencies::depends::depends(set, edition, lent);
-    let start = Some(0);
-    dependencies::print_dependencies(out, start, answer, lent)
+    dependencies::print_dependencies(out, Some(0), answer, lent)
 }
 
 // What the set depends on, told into so many places, all zero.

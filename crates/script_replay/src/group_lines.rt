@@ -46,11 +46,8 @@ fn first_batches(members: [GroupMember; GroupFields::MOST]) -> [GroupBatch; Grou
 {
     let first = members[0];
     let mut batches = [group_batch(first); GroupBatch::MOST];
-    let mut i: usize = 0;
-    while i < GroupBatch::MOST {
-        let member = members[i];
-        batches[i] = group_batch(member);
-        i += 1;
+    for i in 0..GroupBatch::MOST {
+        batches[i] = group_batch(members[i]);
     }
     batches
 }
@@ -87,10 +84,11 @@ pub(crate) fn run_group(
     ensures { (m : State) → ReplayHolds state m → length line.now ≤ line_bytes
         → ReplayStepped state out.old out.new result (replay_line number m (group_arguments (fields_after space line.now end))) }
 {
-    let fields = members::read_group(line, end);
-    if fields.read {
-        let batches = fields.members;
-        return send_group(state, batches, fields.count, fields.from, number, line, out);
+    match members::read_group(line, end) {
+        Some(fields) => {
+            let batches = fields.members;
+            send_group(state, batches, fields.count, fields.from, number, line, out)
+        }
+        None => setup_lines::other(state, number, out),
     }
-    setup_lines::other(state, number, out)
 }

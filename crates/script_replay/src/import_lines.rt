@@ -22,8 +22,7 @@ fn print_imported(
     ensures { Prints out.old (Some 0) (import_line (import_terms (edition_of edition) collection (envelope_of envelope) list.now (length lent.old))) out.new result }
 {
     let answer = patch_import::import_terms(list, edition, collection, envelope, lent);
-    let start = Some(0);
-    script_answers::import::print_import(out, start, answer, lent)
+    script_answers::import::print_import(out, Some(0), answer, lent)
 }
 
 // The set that a list becomes, into so many bytes, all zero.

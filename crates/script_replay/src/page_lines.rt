@@ -21,11 +21,11 @@ pub(crate) fn run_page(
     ensures { (m : State) → ReplayHolds state m
         → ReplayStepped state out.old out.new result (replay_line number m (page_arguments (fields_after space line.now end))) }
 {
-    let page = keys::read_page(line, end);
-    if page.read {
-        let asked = page.keys;
-        let count = page.count;
-        return pages::look_up(state, page.collection, page.room, &asked[0..count], out);
+    match keys::read_page(line, end) {
+        Some(page) => {
+            let asked = page.keys;
+            pages::look_up(state, page.collection, page.room, &asked[..page.count], out)
+        }
+        None => setup_lines::other(state, number, out),
     }
-    setup_lines::other(state, number, out)
 }

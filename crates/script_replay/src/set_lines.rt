@@ -26,8 +26,7 @@ fn print_checked(set: &[u8], edition: ProjectionPatchEdition, out: &mut [u8]) ->
 {
     let mut records = [0u64; RECORD_NUMBERS];
     let answer = check_set::check_set::check(set, edition, &mut records);
-    let start = Some(0);
-    script_answers::check::print_check(out, start, answer, &records)
+    script_answers::check::print_check(out, Some(0), answer, &records)
 }
 
 fn print_converted(
@@ -39,8 +38,7 @@ fn print_converted(
     ensures { Prints out.old (Some 0) (conversion_line (convert (edition_of edition) set.now (length lent.old))) out.new result }
 {
     let answer = patch_converter::convert(set, edition, lent);
-    let start = Some(0);
-    script_answers::conversion::print_conversion(out, start, answer, lent)
+    script_answers::conversion::print_conversion(out, Some(0), answer, lent)
 }
 
 // A conversion into so many bytes, all zero.
@@ -75,8 +73,7 @@ fn use_set(state: ReplayState, wanted: SetLine, set: &[u8], out: &mut [u8]) -> R
             answered(state, printed)
         }
         SetLine::List => {
-            let start = Some(0);
-            let printed = listing_panel::print_listing(out, start, set, edition);
+            let printed = listing_panel::print_listing(out, Some(0), set, edition);
             answered(state, printed)
         }
         SetLine::Convert(room) => {

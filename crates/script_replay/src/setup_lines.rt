@@ -115,8 +115,7 @@ pub(crate) fn in_edition(state: ReplayState, edition: ProjectionPatchEdition) ->
 pub(crate) fn other(state: ReplayState, number: u64, out: &mut [u8]) -> ReplayStep
     ensures { ReplayStepped state out.old out.new result (stops (other_line number)) }
 {
-    let start = Some(0);
-    let printed = session::print_other(out, start, number);
+    let printed = session::print_other(out, Some(0), number);
     ReplayStep {
         state,
         printed,

@@ -1,4 +1,4 @@
--- `script_answers::check::print_findings` meets its contract. The invariant: the lines of the first i records are printed. The measure is the records left.
+-- `script_answers::check::print_findings` meets its contract. The invariant: the lines of the first i records are printed.
 use Prim.Native.Nat.{◌*◌, ◌-◌, ◌≤◌}
 use mathlib.Core.Path.{◌≡◌, refl, ap}
 use mathlib.Core.List.{List, flat_map}
@@ -18,22 +18,14 @@ returns-then-records-count c =
     λ fs counted words w. absurd (omega (arith, words_there c.args.records.now c.args.count fs counted words, c.if-records-count.true))
 
 pub loop-i-init : goal.loop-i-init
-loop-i-init c = (omega arith, (refl, λ fs counted words w. lines_start finding_line fs w))
+loop-i-init c = λ fs counted words w. lines_start finding_line fs w
 
 pub loop-i-preserved : goal.loop-i-preserved
-loop-i-preserved c = (
-  search rules,
-  (
-    search rules,
+loop-i-preserved c =
     λ fs counted words w.
-        let same = ap finding_line (finding_at c.args.records.now c.args.count fs counted words c.loop-i.i c.loop-i-test.true) in
-        lines_turn finding_line fs c.loop-i.i no_finding (omega arith) (c.loop-i.invariant.1.1 fs counted words w) (prints_same same c.print_finding-at.ensures),
-  ),
-)
-
-pub shape_of-out : goal.shape_of-out
-shape_of-out c = c.loop-i.invariant.1.0
+    let same = ap finding_line (finding_at c.args.records.now c.args.count fs counted words c.loop-i.i (omega arith)) in
+    lines_turn finding_line fs c.loop-i.i no_finding (omega arith) (c.loop-i.invariant fs counted words w) (prints_same same c.print_finding-at.ensures)
 
 pub returns : goal.returns
 returns c =
-    λ fs counted words w. lines_end finding_line fs c.loop-i.i (omega arith) (c.loop-i.invariant.1.1 fs counted words w)
+    λ fs counted words w. lines_end finding_line fs c.loop-i.i (omega arith) (c.loop-i.invariant fs counted words w)

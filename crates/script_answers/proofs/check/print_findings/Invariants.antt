@@ -14,9 +14,4 @@ use Rattle.script_answers.proofs.check.print_findings.Given as goal
 
 abbrev pub invariant-loop-i : goal.invariant-loop-i
 invariant-loop-i l =
-    (l.i ≤ l.count)
-    × ((length l.out ≡ length l.initial.out)
-    × ((fs : List Finding) → length fs ≡ l.count → take (record_length * l.count) l.records ≡ finding_words fs → Within l.initial.out l.initial.at → Prints l.initial.out l.initial.at (flat_map finding_line (take l.i fs)) l.out l.at))
-
-abbrev pub decreases-loop-i : goal.decreases-loop-i
-decreases-loop-i l = l.count - l.i
+    (fs : List Finding) → length fs ≡ l.count → take (record_length * l.count) l.records ≡ finding_words fs → Within l.initial.out l.initial.at → Prints l.initial.out l.initial.at (flat_map finding_line (take l.i fs)) l.out l.at

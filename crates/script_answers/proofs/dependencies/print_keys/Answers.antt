@@ -1,4 +1,4 @@
--- `script_answers::dependencies::print_keys` meets its contract. The invariant: the lines of the first i records are printed. The measure is the records left.
+-- `script_answers::dependencies::print_keys` meets its contract. The invariant: the lines of the first i records are printed.
 use Prim.Native.Nat.{◌*◌, ◌-◌, ◌≤◌}
 use mathlib.Core.Path.{◌≡◌, refl, ap}
 use mathlib.Core.List.{flat_map}
@@ -17,23 +17,15 @@ returns-then-words-count c = λ room w. absurd (omega (arith, c.if-words-count.t
 
 pub loop-i-init : goal.loop-i-init
 loop-i-init c =
-    (omega arith, (refl, λ room w. lines_start key_line (first_keys c.args.count c.args.words.now) w))
+    λ room w. lines_start key_line (first_keys c.args.count c.args.words.now) w
 
 pub loop-i-preserved : goal.loop-i-preserved
 loop-i-preserved c =
-    let keys = first_keys c.args.count c.args.words.now in (
-      search rules,
-      (
-        search rules,
-        λ room w.
-            let same = ap key_line (key_at c.args.count c.loop-i.i c.args.words.now (omega arith)) in
-            lines_turn key_line keys c.loop-i.i no_key (omega (arith, keys_counted c.args.count c.args.words.now)) (c.loop-i.invariant.1.1 room w) (prints_same same c.print_key-at.ensures),
-      ),
-    )
-
-pub shape_of-out : goal.shape_of-out
-shape_of-out c = c.loop-i.invariant.1.0
+    let keys = first_keys c.args.count c.args.words.now in
+    λ room w.
+    let same = ap key_line (key_at c.args.count c.loop-i.i c.args.words.now (omega arith)) in
+    lines_turn key_line keys c.loop-i.i no_key (omega (arith, keys_counted c.args.count c.args.words.now)) (c.loop-i.invariant room w) (prints_same same c.print_key-at.ensures)
 
 pub returns : goal.returns
 returns c =
-    λ room w. lines_end key_line (first_keys c.args.count c.args.words.now) c.loop-i.i (omega (arith, keys_counted c.args.count c.args.words.now)) (c.loop-i.invariant.1.1 room w)
+    λ room w. lines_end key_line (first_keys c.args.count c.args.words.now) c.loop-i.i (omega (arith, keys_counted c.args.count c.args.words.now)) (c.loop-i.invariant room w)

@@ -13,9 +13,4 @@ use Rattle.script_answers.proofs.dependencies.print_keys.Given as goal
 
 abbrev pub invariant-loop-i : goal.invariant-loop-i
 invariant-loop-i l =
-    (l.i ≤ l.count)
-    × ((length l.out ≡ length l.initial.out)
-    × (pair_length * l.count ≤ length l.words → Within l.initial.out l.initial.at → Prints l.initial.out l.initial.at (flat_map key_line (take l.i (first_keys l.count l.words))) l.out l.at))
-
-abbrev pub decreases-loop-i : goal.decreases-loop-i
-decreases-loop-i l = l.count - l.i
+    pair_length * l.count ≤ length l.words → Within l.initial.out l.initial.at → Prints l.initial.out l.initial.at (flat_map key_line (take l.i (first_keys l.count l.words))) l.out l.at

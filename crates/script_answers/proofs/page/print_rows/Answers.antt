@@ -1,4 +1,4 @@
--- `script_answers::page::print_rows` meets its contract. The invariant: the lines of the first i keys are printed. The measure is the keys left.
+-- `script_answers::page::print_rows` meets its contract. The invariant: the lines of the first i keys are printed.
 use Prim.Native.Nat.{ℕ, ◌*◌, ◌-◌, ◌≤◌, ◌<◌}
 use mathlib.Core.Path.{◌≡◌, refl, ap, ◌∙◌}
 use mathlib.Core.List.{List, ◌++◌, flat_map}
@@ -26,25 +26,17 @@ returns-then-table-count c =
     absurd (omega (arith, c.if-table-count.true, table_long c.args.table.now p k keys rest v is, counted))
 
 pub loop-i-init : goal.loop-i-init
-loop-i-init c = (omega arith, (refl, λ p k keys rest v counted is w. lines_start (line_of_key p k) keys w))
+loop-i-init c = λ p k keys rest v counted is w. lines_start (line_of_key p k) keys w
 
 pub loop-i-preserved : goal.loop-i-preserved
-loop-i-preserved c = (
-  search rules,
-  (
-    search rules,
+loop-i-preserved c =
     λ p k keys rest v counted is w.
-        let inside : c.loop-i.i < length keys = omega (arith, c.loop-i-test.true, counted) in
-        let answer = page_entry p k (get_or keys c.loop-i.i 0) in
-        let looked = c.read-lookup.ensures answer (page_fits p v k (get_or keys c.loop-i.i 0)) (lent_place p v k keys rest c.args.table.now is c.loop-i.i inside) in
-        lines_turn (line_of_key p k) keys c.loop-i.i 0 inside (c.loop-i.invariant.1.1 p k keys rest v counted is w) (prints_same (ap row_lookup_line looked ∙ row_looked_up answer) c.print_row-at.ensures),
-  ),
-)
-
-pub shape_of-out : goal.shape_of-out
-shape_of-out c = c.loop-i.invariant.1.0
+    let inside : c.loop-i.i < length keys = omega (arith, counted) in
+    let answer = page_entry p k (get_or keys c.loop-i.i 0) in
+    let looked = c.read-lookup.ensures answer (page_fits p v k (get_or keys c.loop-i.i 0)) (lent_place p v k keys rest c.args.table.now is c.loop-i.i inside) in
+    lines_turn (line_of_key p k) keys c.loop-i.i 0 inside (c.loop-i.invariant p k keys rest v counted is w) (prints_same (ap row_lookup_line looked ∙ row_looked_up answer) c.print_row-at.ensures)
 
 pub returns : goal.returns
 returns c =
     λ p k keys rest v counted is w.
-    prints_same (lines_of_keys p k keys) (lines_end (line_of_key p k) keys c.loop-i.i (omega (arith, c.loop-i-test.false, counted)) (c.loop-i.invariant.1.1 p k keys rest v counted is w))
+    prints_same (lines_of_keys p k keys) (lines_end (line_of_key p k) keys c.loop-i.i (omega (arith, counted)) (c.loop-i.invariant p k keys rest v counted is w))

@@ -17,9 +17,4 @@ use Rattle.script_answers.proofs.page.print_rows.Given as goal
 
 abbrev pub invariant-loop-i : goal.invariant-loop-i
 invariant-loop-i l =
-    (l.i ≤ l.count)
-    × ((length l.out ≡ length l.initial.out)
-    × ((p : Projection) (c : ℕ) (keys rest : List ℕ) → Valid p → length keys ≡ l.count → l.table ≡ page_bytes p c keys ++ rest → Within l.initial.out l.initial.at → Prints l.initial.out l.initial.at (flat_map (line_of_key p c) (take l.i keys)) l.out l.at))
-
-abbrev pub decreases-loop-i : goal.decreases-loop-i
-decreases-loop-i l = l.count - l.i
+    (p : Projection) (c : ℕ) (keys rest : List ℕ) → Valid p → length keys ≡ l.count → l.table ≡ page_bytes p c keys ++ rest → Within l.initial.out l.initial.at → Prints l.initial.out l.initial.at (flat_map (line_of_key p c) (take l.i keys)) l.out l.at

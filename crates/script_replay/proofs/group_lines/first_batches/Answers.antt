@@ -12,7 +12,7 @@ loop-i-init c = copied_start _ _ refl
 
 pub loop-i-preserved : goal.loop-i-preserved
 loop-i-preserved c =
-    copied_turn _ _ _ c.loop-i.invariant c.loop-i-test.true (search rules) c.group_batch.result c.group_batch.ensures
+    copied_turn _ _ _ c.loop-i.invariant (omega arith) (search rules) c.group_batch.result c.group_batch.ensures
 
 pub returns : goal.returns
-returns c = copied_end _ _ _ c.loop-i.invariant c.loop-i-test.false
+returns c = copied_end _ _ _ c.loop-i.invariant (omega arith)

@@ -8,6 +8,3 @@ use Rattle.script_replay.proofs.group_lines.first_batches.Given as goal
 
 abbrev pub invariant-loop-i : goal.invariant-loop-i
 invariant-loop-i l = Copied l.members l.batches l.i
-
-abbrev pub decreases-loop-i : goal.decreases-loop-i
-decreases-loop-i l = group_batches - l.i
