@@ -1,5 +1,4 @@
 -- What a conversion is, by what reading the set, the kinds of its values and the room for it say; and what was written is read back.
-use Rattle.std.specs.Prelude as code
 use Rattle.std.specs.Prelude.{ℕ, ◌+◌, ◌≤◌, ◌<◌, ◌≡◌, refl, true, List, ◌∷◌, ◌++◌, length, take, drop, Result, Ok, Err}
 use Rattle.std.proofs.Common.{sym, ◌∙◌, arith, length-append, length-drop, take_at, length-take-le}
 use Rattle.std.proofs.Math.Path.{ap}
@@ -20,8 +19,8 @@ use Rattle.bytes_wire.proofs.WriteLaws.{has_room_lem, overwrite_in_place}
 use Rattle.projection_patch.specs.ReadAnswers.{fault_of}
 use Rattle.projection_patch.specs.declared.read_values.ProjectionPatchReadFault.{ProjectionPatchReadFault}
 use Rattle.projection_patch.specs.declared.read_values.ProjectionPatchReadFault.TheVariants.{Malformed, OverCapacity}
-use Rattle.patch_walk.specs.SetReads.{set_answer}
-use Rattle.patch_walk.specs.SetReads.{counted}
+use Rattle.patch_walk.specs.declared.SetCounts.{SetCounts}
+use Rattle.patch_walk.specs.SetReads.{set_answer, counted}
 use Rattle.patch_converter.specs.declared.ConversionRefusal.{ConversionRefusal}
 use Rattle.patch_converter.specs.Answers.{conversion_refusal_to, conversion_answer, conversion_output}
 
@@ -39,13 +38,13 @@ module _ (from : Edition) (set : List ℕ) where
       go (fault f) r e = absurd (let z : ◌≡◌ {A = ℕ} 0 1 = cc in omega arith)
 
   -- one that is not
-  pub set_not_read : (f : ProjectionPatchReadFault) → set_answer (read_set from set) ≡ code.Err f → read_set from set ≡ fault (fault_of f)
+  pub set_not_read : (f : ProjectionPatchReadFault) → set_answer (read_set from set) ≡ Err f → read_set from set ≡ fault (fault_of f)
   set_not_read f e = go (read_set from set) refl e
     where
-      told : (g : ProjectionPatchReadFault) → code.Err g ≡ code.Err f → fault_of g ≡ fault_of f
+      told : (g : ProjectionPatchReadFault) → ◌≡◌ {A = Result SetCounts ProjectionPatchReadFault} (Err g) (Err f) → fault_of g ≡ fault_of f
       told g e = let is : g ≡ f = cc in ap fault_of is
 
-      go : (r : SetReading) → read_set from set ≡ r → set_answer r ≡ code.Err f → read_set from set ≡ fault (fault_of f)
+      go : (r : SetReading) → read_set from set ≡ r → set_answer r ≡ Err f → read_set from set ≡ fault (fault_of f)
       go (patches ps) r e = absurd (let z : ◌≡◌ {A = ℕ} 0 1 = cc in omega arith)
       go (fault malformed) r e = r ∙ ap fault (told Malformed e)
       go (fault over_capacity) r e = r ∙ ap fault (told OverCapacity e)

@@ -12,6 +12,7 @@ use projection_patch::patch::{
     ProjectionPatchEdition, ProjectionPatchOperation, ProjectionPatchValue,
 };
 
+#[tactic(auto, unfolding(spec_patch::specs::Encode::kind_of, spec_patch::specs::Edition::kinds, spec_patch::specs::Edition::has_kind))]
 fn has_kind(value: ProjectionPatchValue, edition: ProjectionPatchEdition) -> bool
     ensures { (texts : List ℕ) → result ≡ kind_in (edition_of edition) (value_of texts value) }
 {
@@ -25,6 +26,7 @@ fn has_kind(value: ProjectionPatchValue, edition: ProjectionPatchEdition) -> boo
 }
 
 // An operation without a value passes.
+#[tactic(auto, unfolding(spec_patch::specs::Write::value_passes))]
 fn has_kind_of(operation: ProjectionPatchOperation, edition: ProjectionPatchEdition) -> bool
     ensures { (texts : List ℕ) → result ≡ value_passes (kind_in (edition_of edition)) (operation_of texts operation) }
 {
@@ -95,8 +97,8 @@ pub fn has_every_kind(set: &[u8], from: ProjectionPatchEdition, to: ProjectionPa
     if to.has_scores() {
         return true;
     }
-    match patch_walk::open_set(set, from) {
-        Ok(cursor) => has_kinds_left(set, cursor, from, to),
-        Err(_) => false,
-    }
+    let Ok(cursor) = patch_walk::open_set(set, from) else {
+        return false;
+    };
+    has_kinds_left(set, cursor, from, to)
 }

@@ -11,7 +11,6 @@ ghost use Rattle.patch_converter.specs.Answers.{conversion_refusal_of, unread_to
 
 use crate::kinds::has_every_kind;
 use patch_part_writer::head::{DIGIT_AT, edition_digit};
-use patch_walk::SetCounts;
 use projection_patch::patch::ProjectionPatchEdition;
 use projection_patch::read_values::ProjectionPatchReadFault;
 
@@ -40,6 +39,7 @@ impl ConversionRefusal {
     }
 }
 
+#[tactic(auto, unfolding(spec_conversion::specs::Conversion::other_edition))]
 fn other_edition(edition: ProjectionPatchEdition) -> ProjectionPatchEdition
     ensures { edition_of result ≡ other_edition (edition_of edition) }
 {
@@ -83,23 +83,14 @@ pub fn convert(
     ensures out_after { out.new ≡ conversion_output out.old (convert (edition_of from) set.now (length out.old)) }
     ensures by_index { (n : ℕ) → result ≡ Ok n → read_set (other_edition (edition_of from)) (take n out.new) ≡ read_set (edition_of from) set.now }
 {
-    match patch_walk::read_set(set, from) {
-        Err(fault) => Err(ConversionRefusal::from(fault)),
-        Ok(
-            SetCounts {
-                patch_count: _,
-                operation_count: _,
-            },
-        ) => {
-            let to = other_edition(from);
-            if !has_every_kind(set, from, to) {
-                return Err(ConversionRefusal::KindMissing);
-            }
-            if out.len() < set.len() {
-                return Err(ConversionRefusal::OutputTooShort);
-            }
-            store_with_letter(set, to, out);
-            Ok(set.len())
-        }
+    patch_walk::read_set(set, from)?;
+    let to = other_edition(from);
+    if !has_every_kind(set, from, to) {
+        return Err(ConversionRefusal::KindMissing);
     }
+    if out.len() < set.len() {
+        return Err(ConversionRefusal::OutputTooShort);
+    }
+    store_with_letter(set, to, out);
+    Ok(set.len())
 }

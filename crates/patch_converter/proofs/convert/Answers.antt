@@ -19,12 +19,12 @@ use Rattle.projection_patch.specs.ReadAnswers.{fault_of}
 use Rattle.patch_part_writer.proofs.Flags.{fails, not_false_holds}
 use Rattle.std.specs.Prelude.{Result, Ok, Err}
 use Rattle.patch_converter.specs.declared.ConversionRefusal.{ConversionRefusal}
-use Rattle.patch_converter.specs.Answers.{conversion_answer, conversion_output}
+use Rattle.patch_converter.specs.Answers.{unread_to, conversion_answer, conversion_output}
 use Rattle.patch_converter.specs.AnswersLaws.{Readable, set_readable, set_not_read, is_unread, is_missing, is_short, is_converted, letter_length, ConversionLeft, left_unconverted, left_converted, converted_read}
 use mathlib.Core.Path.{ap}
 use mathlib.Core.Bool.{not}
 use Rattle.patch_converter.proofs.convert.Goals as goal
-use Rattle.patch_converter.proofs.convert.Goals.{After-has_every_kind, After-read_set}
+use Rattle.patch_converter.proofs.convert.Goals.{After-has_every_kind, After-read_set, In_err-read_set}
 
 abbrev set : After-read_set → List ℕ
 set k = k.args.set.now
@@ -44,7 +44,7 @@ also-read : (k : After-read_set) (r : Result ℕ ConversionRefusal) (o : List �
 also-read k r o h = (h.0, (h.1, converted_read (from k) (set k) (all_bytes k) (out k) r o h))
 
 listed : (k : After-has_every_kind) → Readable ((edition_of k.args.from)) ((k.args.set.now))
-listed k = set_readable ((edition_of k.args.from)) ((k.args.set.now)) _ _ (sym k.read_set.ensures ∙ k.in-Read.is)
+listed k = set_readable ((edition_of k.args.from)) ((k.args.set.now)) _ _ (sym k.read_set.ensures ∙ k.in_ok-read_set.was)
 
 asked : (k : After-has_every_kind) → all_kinds (other_edition ((edition_of k.args.from))) (listed k).list ≡ k.has_every_kind.result
 asked k = sym (k.has_every_kind.ensures (listed k).list (listed k).reads ∙ ap (λ (ed : Edition). all_kinds ed (listed k).list) k.other_edition-to.ensures)
@@ -67,16 +67,23 @@ returns-then-out-set c =
 pub store_with_letter-requires : goal.store_with_letter-requires
 store_with_letter-requires c = (long (goal.at.store_with_letter-requires c).After-has_every_kind, omega (arith, c.if-out-set.false))
 
-pub returns-in-Refused : goal.returns-in-Refused
-returns-in-Refused c =
-    let all = let told = is_unread (from (goal.at.returns-in-Refused c).After-read_set) (set (goal.at.returns-in-Refused c).After-read_set) (length (out (goal.at.returns-in-Refused c).After-read_set)) c.in-Refused.fault (set_not_read (from (goal.at.returns-in-Refused c).After-read_set) (set (goal.at.returns-in-Refused c).After-read_set) c.in-Refused.fault (sym c.read_set.ensures ∙ c.in-Refused.is)) in
-    let left = left_unconverted (out (goal.at.returns-in-Refused c).After-read_set) (model.unread (fault_of c.in-Refused.fault)) told in
-    also-read (goal.at.returns-in-Refused c).After-read_set _ _ (ap Err c.from.ensures ∙ left.0, left.1) in record { value = all.0; out_after = all.1.0; by_index = all.1.1 }
+-- a fault in reading, and the output that is left
+unread : (k : In_err-read_set) → ConversionLeft k.args.out.now (convert (edition_of k.args.from) k.args.set.now (length k.args.out.now)) (Err (unread_to k.in_err-read_set.field-0.0)) k.args.out.now
+unread k =
+    left_unconverted k.args.out.now (model.unread (fault_of k.in_err-read_set.field-0.0)) (is_unread (edition_of k.args.from) k.args.set.now (length k.args.out.now) k.in_err-read_set.field-0.0 (set_not_read (edition_of k.args.from) k.args.set.now k.in_err-read_set.field-0.0 (sym k.read_set.ensures ∙ k.in_err-read_set.was)))
 
-pub returns-else-out-set : goal.returns-else-out-set
-returns-else-out-set c =
-    let all = let o = out (goal.at.returns-else-out-set c).After-read_set in
-    let room : length (set (goal.at.returns-else-out-set c).After-read_set) ≤ length o = omega (arith, c.if-out-set.false) in
-    let done = is_converted (from (goal.at.returns-else-out-set c).After-read_set) (set (goal.at.returns-else-out-set c).After-read_set) (length o) (listed (goal.at.returns-else-out-set c).After-has_every_kind).list (listed (goal.at.returns-else-out-set c).After-has_every_kind).reads (all_bytes (goal.at.returns-else-out-set c).After-read_set) (asked (goal.at.returns-else-out-set c).After-has_every_kind ∙ not_false_holds c.has_every_kind.result (ap not c.if-not-has_every_kind.false)) room in
-    let written = c.store_with_letter.ensures ∙ ap (λ (ed : Edition). overwrite o 0 (after (goal.at.returns-else-out-set c).After-read_set ed)) c.other_edition-to.ensures in
-    also-read (goal.at.returns-else-out-set c).After-read_set _ _ (left_converted o (after (goal.at.returns-else-out-set c).After-read_set (other_edition (from (goal.at.returns-else-out-set c).After-read_set))) done (length (set (goal.at.returns-else-out-set c).After-read_set)) (letter_length (set (goal.at.returns-else-out-set c).After-read_set) _ (long (goal.at.returns-else-out-set c).After-has_every_kind)) room _ written) in record { value = all.0; out_after = all.1.0; by_index = all.1.1 }
+pub returns-in_err-read_set-clause-value : goal.returns-in_err-read_set-clause-value
+returns-in_err-read_set-clause-value c =
+    let told : c.from_residual.result ≡ Err (unread_to c.in_err-read_set.field-0.0) = search rules in
+    told ∙ (unread (goal.at.returns-in_err-read_set-clause-value c).In_err-read_set).0
+
+pub returns-in_err-read_set-clause-out_after : goal.returns-in_err-read_set-clause-out_after
+returns-in_err-read_set-clause-out_after c = (unread (goal.at.returns-in_err-read_set-clause-out_after c).In_err-read_set).1
+
+pub returns : goal.returns
+returns c =
+    let all = let o = out (goal.at.returns c).After-read_set in
+    let room : length (set (goal.at.returns c).After-read_set) ≤ length o = omega (arith, c.if-out-set.false) in
+    let done = is_converted (from (goal.at.returns c).After-read_set) (set (goal.at.returns c).After-read_set) (length o) (listed (goal.at.returns c).After-has_every_kind).list (listed (goal.at.returns c).After-has_every_kind).reads (all_bytes (goal.at.returns c).After-read_set) (asked (goal.at.returns c).After-has_every_kind ∙ not_false_holds c.has_every_kind.result (ap not c.if-not-has_every_kind.false)) room in
+    let written = c.store_with_letter.ensures ∙ ap (λ (ed : Edition). overwrite o 0 (after (goal.at.returns c).After-read_set ed)) c.other_edition-to.ensures in
+    also-read (goal.at.returns c).After-read_set _ _ (left_converted o (after (goal.at.returns c).After-read_set (other_edition (from (goal.at.returns c).After-read_set))) done (length (set (goal.at.returns c).After-read_set)) (letter_length (set (goal.at.returns c).After-read_set) _ (long (goal.at.returns c).After-has_every_kind)) room _ written) in record { value = all.0; out_after = all.1.0; by_index = all.1.1 }

@@ -25,10 +25,10 @@ pub returns-then-has_scores : goal.returns-then-has_scores
 returns-then-has_scores c =
     λ ps reads. sym (every_list (edition_of c.args.to) (sym c.has_scores.ensures ∙ c.if-has_scores.true) ps)
 
-pub returns-in-At : goal.returns-in-At
-returns-in-At c =
-    λ ps reads. c.has_kinds_left.ensures ps (opened_at (from (goal.at.returns-in-At c).After-open_set) (set (goal.at.returns-in-At c).After-open_set) (all_bytes (goal.at.returns-in-At c).After-open_set) ps reads c.open_set.ensures _ c.in-At.is)
+pub returns : goal.returns
+returns c =
+    λ ps reads. c.has_kinds_left.ensures ps (opened_at (from (goal.at.returns c).After-open_set) (set (goal.at.returns c).After-open_set) (all_bytes (goal.at.returns c).After-open_set) ps reads c.open_set.ensures _ c.in-Ok.is)
 
-pub returns-in-Refused : goal.returns-in-Refused
-returns-in-Refused c =
-    λ ps reads. absurd (never_unopened (from (goal.at.returns-in-Refused c).After-open_set) (set (goal.at.returns-in-Refused c).After-open_set) (all_bytes (goal.at.returns-in-Refused c).After-open_set) ps reads c.open_set.ensures _ c.in-Refused.is)
+pub returns-in_default : goal.returns-in_default
+returns-in_default c =
+    λ ps reads. absurd (never_unopened (from (goal.at.returns-in_default c).After-open_set) (set (goal.at.returns-in_default c).After-open_set) (all_bytes (goal.at.returns-in_default c).After-open_set) ps reads c.open_set.ensures _ c.in_default.is)
