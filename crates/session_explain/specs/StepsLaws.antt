@@ -45,12 +45,10 @@ use Rattle.check_set.specs.declared.check_set.PatchSetCheck.TheVariants as set-c
 use Rattle.session_lifecycle.specs.Meaning.{refusal_of}
 use Rattle.session_lifecycle.specs.declared.diagnostics.ShellRefusal.{ShellRefusal}
 use Rattle.session_gates.specs.Gates as gates
-use Rattle.session_gates.specs.Gates.{gate_of}
+use Rattle.session_gates.specs.Gates.{step_of}
 use Rattle.session_gates.proofs.GatesLaws.{operations_counted}
 use Rattle.session_gates.specs.Lent.{Lent}
 use Rattle.session_gates.proofs.LentLaws.{absent_is}
-use Rattle.session_gates.specs.declared.gates.BatchGate.{BatchGate}
-use Rattle.session_gates.specs.declared.gates.BatchGate.TheVariants as gate
 use Rattle.session_explain.specs.Unknown.{unknown_to}
 use Rattle.session_explain.specs.Refused.{reason_refused_to}
 use Rattle.session_explain.specs.Reasons.{reason_to, found_to, step_to, explanation_to, first_to, capped_to, located_to, targets_to, operations_to}
@@ -133,20 +131,20 @@ findings_unread ps h = absurd (let z : ◌≡◌ {A = ℕ} 0 1 = cc in omega ari
 
 -- ---- the cursor
 
-module _ (c : Cursor) (e : BatchEnvelope) (g : BatchGate) (told : gate_of g ≡ gates.replay_by c e) where
-  pub replay_passed : g ≡ gate.Passed → Ok tt ≡ step_to (explain_replay_by c e)
-  unfolding explain_replay_by gates.replay_by gate_of require_or batching.require
-  replay_passed is = go (eqb e.patches 0 || takes_number c e.sequence) (sym (ap gate_of is) ∙ told)
+module _ (c : Cursor) (e : BatchEnvelope) (g : code.Result (Unit {0}) ShellRefusal) (told : step_of g ≡ gates.replay_by c e) where
+  pub replay_passed : g ≡ code.Ok tt → Ok tt ≡ step_to (explain_replay_by c e)
+  unfolding explain_replay_by gates.replay_by step_of require_or batching.require
+  replay_passed is = go (eqb e.patches 0 || takes_number c e.sequence) (sym (ap step_of is) ∙ told)
     where
       go : (t : Bool) → pass tt ≡ batching.require t session.cursor_mismatch → Ok tt ≡ step_to (require_or t (cursor_mismatch (next_number c)))
       go true h = refl
       go false h = absurd (let z : ◌≡◌ {A = ℕ} 0 1 = cc in omega arith)
 
-  pub replay_refused : {r : ShellRefusal} {n : ℕ} → g ≡ gate.Refused r n → (o : code.Option ℕ) → o ≡ optional_to (next_number c) → Err (reasons.CursorMismatch o) ≡ step_to (explain_replay_by c e)
-  unfolding explain_replay_by gates.replay_by gate_of require_or batching.require
-  replay_refused {r} {n} is o after = ap (λ x. Err (reasons.CursorMismatch x)) after ∙ go (eqb e.patches 0 || takes_number c e.sequence) (sym (ap gate_of is) ∙ told)
+  pub replay_refused : {r : ShellRefusal} → g ≡ code.Err r → (o : code.Option ℕ) → o ≡ optional_to (next_number c) → Err (reasons.CursorMismatch o) ≡ step_to (explain_replay_by c e)
+  unfolding explain_replay_by gates.replay_by step_of require_or batching.require
+  replay_refused {r} is o after = ap (λ x. Err (reasons.CursorMismatch x)) after ∙ go (eqb e.patches 0 || takes_number c e.sequence) (sym (ap step_of is) ∙ told)
     where
-      go : (t : Bool) → refuse (refusal_of r) n ≡ batching.require t session.cursor_mismatch → Err (reasons.CursorMismatch (optional_to (next_number c))) ≡ step_to (require_or t (cursor_mismatch (next_number c)))
+      go : (t : Bool) → refuse (refusal_of r) 1 ≡ batching.require t session.cursor_mismatch → Err (reasons.CursorMismatch (optional_to (next_number c))) ≡ step_to (require_or t (cursor_mismatch (next_number c)))
       go true h = absurd (let z : ◌≡◌ {A = ℕ} 0 1 = cc in omega arith)
       go false h = refl
 

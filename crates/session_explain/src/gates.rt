@@ -9,7 +9,7 @@ ghost use Rattle.session_explain.specs.Steps.{declared_by, explain_preflight_by,
 
 use crate::reasons::{BatchReason, DeclaredLimit};
 use session_gates::gates;
-use session_gates::gates::{BatchGate, OrderedProjectionPatchBatchEnvelope};
+use session_gates::gates::OrderedProjectionPatchBatchEnvelope;
 use session_lifecycle::lifecycle;
 use session_lifecycle::state::{ProjectionReplayCursor, ShellLifecycle, ShellLifecycleLimits};
 
@@ -131,8 +131,8 @@ pub fn explain_cursor(
     ensures { result ≡ step_to (explain_replay_by (cursor_of cursor) (batch_envelope_of envelope)) }
 {
     match gates::evaluate_replay_compatibility(cursor, envelope) {
-        BatchGate::Passed => Ok(()),
-        BatchGate::Refused(_, _) => Err(BatchReason::CursorMismatch {
+        Ok(()) => Ok(()),
+        Err(_) => Err(BatchReason::CursorMismatch {
             takes: number_after(cursor),
         }),
     }

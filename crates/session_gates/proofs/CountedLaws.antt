@@ -1,10 +1,10 @@
 -- Every refusal of the steps comes with a logical count that fits it.
-use Rattle.std.specs.Prelude.{ℕ, ◌≡◌, refl, Bool, true, false, eqb, if◌then◌else◌}
+use Rattle.std.specs.Prelude.{ℕ, ◌≡◌, refl, Bool, true, false, eqb}
 use Rattle.std.proofs.Common.{arith, lt-ltb}
 use Rattle.std.proofs.lemmas.Bool.{eqb-false}
 use Rattle.spec_lists.proofs.ListLaws.{test_cases}
 use Rattle.spec_session.specs.Session.{Lifecycle, Cursor, Limits}
-use Rattle.spec_session.specs.Diagnostics.{SessionRefusal, session_mismatch, session_closed, limit_exceeded, counts_differ, cursor_mismatch, of_reading}
+use Rattle.spec_session.specs.Diagnostics.{SessionRefusal, session_mismatch, session_closed, limit_exceeded, counts_differ, cursor_mismatch}
 use Rattle.spec_session.specs.Batch.{BatchEnvelope, Check, pass, refuse, ◌>>◌, require, known_targets}
 use Rattle.projection_patch.specs.declared.read_values.ProjectionPatchReadFault.TheVariants.{Malformed, OverCapacity}
 use Rattle.check_quick.specs.declared.inspection.SetInspection.{SetInspection}

@@ -1,5 +1,7 @@
 -- The steps by what they look at are the steps of a batch.
-use Rattle.std.specs.Prelude.{ℕ, ◌+◌, ◌≡◌, Bool, ◌&&◌, ◌||◌, leb, eqb, length, if◌then◌else◌}
+use Rattle.std.specs.Prelude.{ℕ, ◌+◌, ◌≡◌, Bool, ◌&&◌, ◌||◌, leb, eqb, length, if◌then◌else◌, Result, Err}
+use Rattle.std.specs.Result.{IsErrAnd}
+use Rattle.std.proofs.lemmas.Result.{err_from_is_err_and}
 use Rattle.std.proofs.Math.Path.{refl, sym, ap, ap₂}
 use Rattle.std.proofs.Common.{◌∙◌, length-append}
 use Rattle.std.proofs.Math.Bool.{true, false, not}
@@ -11,7 +13,7 @@ use Rattle.spec_patch.specs.Reader.{Fault}
 use Rattle.spec_patch.specs.Read.{SetReading, patches, fault, read_set}
 use Rattle.spec_checks.specs.Findings.{findings}
 use Rattle.spec_projection.specs.Apply.{operations_of}
-use Rattle.spec_session.specs.Session.{Cursor, Limits, Session}
+use Rattle.spec_session.specs.Session.{Session}
 use Rattle.spec_session.specs.Diagnostics.{SessionRefusal, session_mismatch, session_closed, limit_exceeded, counts_differ, cursor_mismatch, checks_failed, of_reading}
 use Rattle.spec_session.specs.Lifecycle.{is_closed}
 use Rattle.spec_session.specs.Batch.{BatchEnvelope, Check, pass, refuse, ◌>>=◌, ◌>>◌, require, readable, absent_targets, known_targets, takes_number, batch_checks}
@@ -22,11 +24,13 @@ use Rattle.check_quick.specs.Anchors.{anchored, absent_of}
 use Rattle.check_quick.specs.QuickAnswers.{inspected_by, inspection_answer}
 use Rattle.check_quick.specs.declared.inspection.SetInspection.{SetInspection}
 use Rattle.check_quick.specs.declared.inspection.SetInspection.TheVariants as inspection
-use Rattle.session_lifecycle.specs.Meaning.{lifecycle_of, cursor_of, limits_of}
+use Rattle.session_lifecycle.specs.Meaning.{refusal_of, lifecycle_of, cursor_of, limits_of}
+use Rattle.session_lifecycle.specs.declared.diagnostics.ShellRefusal.{ShellRefusal}
+use Rattle.session_gates.specs.declared.gates.GateRefusal.{GateRefusal}
 use Rattle.session_lifecycle.specs.declared.state.ShellLifecycleLimits.{ShellLifecycleLimits}
 use Rattle.session_lifecycle.specs.declared.state.ShellLocalState.{ShellLocalState}
 use Rattle.session_gates.specs.Gates as gates
-use Rattle.session_gates.specs.Gates.{preflight_by, counts_by, replay_by, targets_by, inspection_by, erased, Decides}
+use Rattle.session_gates.specs.Gates.{gate_of, one_refusal, preflight_by, counts_by, replay_by, targets_by, inspection_by, erased, Decides}
 use Rattle.session_gates.proofs.CountedLaws.{steps_counted}
 use Rattle.session_gates.specs.Lent.{Lent}
 use Rattle.session_gates.proofs.LentLaws.{absent_is}
@@ -135,20 +139,18 @@ module _ (ed : Edition) (id : ℕ) (limits : ShellLifecycleLimits) (state : Shel
   by_steps : (answer : Check (Unit {0})) → answer ≡ steps_seen → ByBatch answer
   by_steps answer is = (λ s seen. is ∙ steps_are s seen, (ap gates.check_counted is ∙ steps_counted _ _ _ _ _ _ _, λ r n h. is ∙ ap (λ c. c >> behind) h))
 
-  pub preflight_refused : (r : SessionRefusal) (n : ℕ) → refuse r n ≡ preflight_by id (limits_of limits) (lifecycle_of state.lifecycle) e → ByBatch (refuse r n)
-  preflight_refused r n h = by_steps (refuse r n) (ap (λ c. c >> behind) h)
+  pub preflight_refused : (answer : Check (Unit {0})) (r : SessionRefusal) (n : ℕ) → answer ≡ refuse r n → refuse r n ≡ preflight_by id (limits_of limits) (lifecycle_of state.lifecycle) e → ByBatch answer
+  preflight_refused answer r n is h = by_steps answer (is ∙ ap (λ c. c >> behind) h)
 
   pub preflight_passed : (answer : Check (Unit {0})) → pass tt ≡ preflight_by id (limits_of limits) (lifecycle_of state.lifecycle) e → (i : SetInspection) → i ≡ inspection_answer nodes bindings collections (read_set ed set)
       → answer ≡ inspection_by (limits_of limits) (cursor_of state.replay_cursor) e declared i → ByBatch answer
   preflight_passed answer h i told is = by_steps answer (is ∙ ap (inspection_by (limits_of limits) (cursor_of state.replay_cursor) e declared) told ∙ ap (λ c. c >> behind) h)
 
--- ---- behind the counts
+-- ---- refusals that are handed on
 
-module _ (l : Limits) (c : Cursor) (e : BatchEnvelope) (declared n k absent : ℕ) where
-  pub counts_refused : (r : SessionRefusal) (m : ℕ) → refuse r m ≡ counts_by l e declared n k → refuse r m ≡ inspection_by l c e declared (inspection.Clean n k absent)
-  unfolding inspection_by
-  counts_refused r m h = ap (λ a. a >> targets_by absent c e) h
+pub handed_on : (r : Result (Unit {0}) GateRefusal) (f : GateRefusal) → IsErrAnd r (λ g. g ≡ f) → gate_of r ≡ gate_of (Err f)
+handed_on r f h = let refused = err_from_is_err_and r h in rw (refused.1, refused.2)
 
-  pub counts_passed : (answer : Check (Unit {0})) → pass tt ≡ counts_by l e declared n k → answer ≡ targets_by absent c e → answer ≡ inspection_by l c e declared (inspection.Clean n k absent)
-  unfolding inspection_by
-  counts_passed answer h is = is ∙ ap (λ a. a >> targets_by absent c e) h
+pub one_handed_on : (r : Result (Unit {0}) GateRefusal) (f : ShellRefusal) → IsErrAnd r (λ g. g ≡ one_refusal f) → gate_of r ≡ refuse (refusal_of f) 1
+unfolding gate_of
+one_handed_on r f h = let refused = err_from_is_err_and r h in rw (refused.1, refused.2)

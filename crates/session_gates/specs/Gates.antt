@@ -1,6 +1,6 @@
 -- The steps of a batch, by what each of them looks at: 01, 'One batch, from entry to leaf'. `GatesLaws.antt` proves that in their order they are
 -- `batch_checks`.
-use Rattle.std.specs.Prelude.{ℕ, ◌≡◌, Bool, true, not, ◌&&◌, ◌||◌, List, leb, ltb, eqb, if◌then◌else◌}
+use Rattle.std.specs.Prelude.{ℕ, ◌≡◌, Bool, true, not, ◌&&◌, ◌||◌, List, leb, ltb, eqb, if◌then◌else◌, Result, Ok, Err}
 use Rattle.spec_patch.specs.Patch.{Patch}
 use Rattle.spec_session.specs.Session.{Lifecycle, Cursor, Limits}
 use Rattle.spec_session.specs.Diagnostics.{SessionRefusal, session_number, session_mismatch, session_closed, limit_exceeded, counts_differ, cursor_mismatch, checks_failed, of_reading}
@@ -9,17 +9,33 @@ use Rattle.spec_session.specs.Batch.{BatchEnvelope, Check, pass, refuse, ◌>>�
 use Rattle.projection_patch.specs.ReadAnswers.{fault_of}
 use Rattle.check_quick.specs.declared.inspection.SetInspection.{SetInspection}
 use Rattle.check_quick.specs.declared.inspection.SetInspection.TheVariants as inspection
+use Rattle.projection_patch.specs.declared.read_values.ProjectionPatchReadFault.{ProjectionPatchReadFault}
+use Rattle.projection_patch.specs.declared.read_values.ProjectionPatchReadFault.TheVariants.{Malformed, OverCapacity}
 use Rattle.session_lifecycle.specs.Meaning.{refusal_of}
+use Rattle.session_lifecycle.specs.declared.diagnostics.ShellRefusal.{ShellRefusal}
+use Rattle.session_lifecycle.specs.declared.diagnostics.ShellRefusal.TheVariants as refused
 use Rattle.session_gates.specs.declared.gates.OrderedProjectionPatchBatchEnvelope.{OrderedProjectionPatchBatchEnvelope}
-use Rattle.session_gates.specs.declared.gates.BatchGate.{BatchGate}
-use Rattle.session_gates.specs.declared.gates.BatchGate.TheVariants.{Passed, Refused}
+use Rattle.session_gates.specs.declared.gates.GateRefusal.{GateRefusal}
 
 abbrev pub batch_envelope_of : OrderedProjectionPatchBatchEnvelope → BatchEnvelope
 batch_envelope_of e = record { session = e.session_id.0; sequence = e.sequence_no; patches = e.patch_count; stimulus_bytes = e.stimulus_bytes }
 
-unfoldable pub gate_of : BatchGate → Check (Unit {0})
-gate_of Passed = pass tt
-gate_of (Refused r n) = refuse (refusal_of r) n
+unfoldable pub gate_of : Result (Unit {0}) GateRefusal → Check (Unit {0})
+gate_of (Ok u) = pass tt
+gate_of (Err r) = refuse (refusal_of r.refusal) r.logical
+
+-- a refusal with one diagnostic
+abbrev pub one_refusal : ShellRefusal → GateRefusal
+one_refusal r = record { refusal = r; logical = 1 }
+
+abbrev pub reading_refused : ProjectionPatchReadFault → GateRefusal
+reading_refused Malformed = one_refusal refused.Malformed
+reading_refused OverCapacity = one_refusal refused.OverCapacity
+
+-- a step whose refusals have one diagnostic each
+unfoldable pub step_of : Result (Unit {0}) ShellRefusal → Check (Unit {0})
+step_of (Ok u) = pass tt
+step_of (Err r) = refuse (refusal_of r) 1
 
 -- steps 1 to 3
 unfoldable pub preflight_by : ℕ → Limits → Lifecycle → BatchEnvelope → Check (Unit {0})

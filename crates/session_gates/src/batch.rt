@@ -2,16 +2,14 @@
 // anchors are lent as numbers, as that pass wants them.
 ghost use Rattle.std.specs.Prelude.{◌≡◌, true};
 ghost use Rattle.spec_session.specs.Session.{Session};
-ghost use Rattle.spec_session.specs.Diagnostics.{of_reading};
-ghost use Rattle.spec_session.specs.Batch.{batch_checks};
+ghost use Rattle.spec_session.specs.Batch.{known_targets, batch_checks};
 ghost use Rattle.projection_patch.specs.Meaning.{edition_of};
-ghost use Rattle.projection_patch.specs.ReadAnswers.{fault_of};
-ghost use Rattle.session_lifecycle.specs.Meaning.{refusal_of, lifecycle_of, cursor_of, limits_of};
-ghost use Rattle.session_gates.specs.Gates.{gate_of, batch_envelope_of, preflight_by, targets_by, inspection_by, erased, check_counted, Decides};
+ghost use Rattle.session_lifecycle.specs.Meaning.{lifecycle_of, cursor_of, limits_of};
+ghost use Rattle.session_gates.specs.Gates.{reading_refused, gate_of, batch_envelope_of, preflight_by, inspection_by, erased, check_counted, Decides};
 ghost use Rattle.session_gates.specs.Seen.{Seen};
 
 use crate::gates;
-use crate::gates::{BatchGate, OrderedProjectionPatchBatchEnvelope};
+use crate::gates::{GateRefusal, OrderedProjectionPatchBatchEnvelope};
 use check_quick::inspection;
 use check_quick::inspection::SetInspection;
 use projection_patch::patch::ProjectionPatchEdition;
@@ -20,27 +18,28 @@ use session_lifecycle::diagnostics::ShellRefusal;
 use session_lifecycle::state::{ProjectionReplayCursor, ShellLifecycleLimits, ShellLocalState};
 
 // The refusal of a set that does not read.
-fn refusal_of(fault: ProjectionPatchReadFault) -> ShellRefusal
-    ensures { refusal_of result ≡ of_reading (fault_of fault) }
-{
-    match fault {
-        ProjectionPatchReadFault::Malformed => ShellRefusal::Malformed,
-        ProjectionPatchReadFault::OverCapacity => ShellRefusal::OverCapacity,
+impl From<ProjectionPatchReadFault> for GateRefusal {
+    ghost from_gives = { λ fault alone. alone ≡ reading_refused fault };
+
+    fn from(fault: ProjectionPatchReadFault) -> GateRefusal {
+        GateRefusal::from(match fault {
+            ProjectionPatchReadFault::Malformed => ShellRefusal::Malformed,
+            ProjectionPatchReadFault::OverCapacity => ShellRefusal::OverCapacity,
+        })
     }
 }
 
-// Steps 7 and 8, where so many operations have an absent target.
-fn check_targets(
-    cursor: ProjectionReplayCursor,
-    envelope: OrderedProjectionPatchBatchEnvelope,
-    absent: u64,
-) -> BatchGate
-    ensures { gate_of result ≡ targets_by absent (cursor_of cursor) (batch_envelope_of envelope) }
+// Step 7, where so many operations have an absent target.
+fn check_targets(absent: u64) -> Result<(), GateRefusal>
+    ensures { gate_of result ≡ known_targets absent }
 {
     if 0 < absent {
-        return BatchGate::Refused(ShellRefusal::InvalidTarget, absent);
+        return Err(GateRefusal {
+            refusal: ShellRefusal::InvalidTarget,
+            logical: absent,
+        });
     }
-    gates::evaluate_replay_compatibility(cursor, envelope)
+    Ok(())
 }
 
 // Steps 4 to 8, by what the pass over the set found.
@@ -50,26 +49,28 @@ fn check_inspection(
     envelope: OrderedProjectionPatchBatchEnvelope,
     declared: u64,
     inspected: SetInspection,
-) -> BatchGate
+) -> Result<(), GateRefusal>
     ensures { gate_of result ≡ inspection_by (limits_of limits) (cursor_of cursor) (batch_envelope_of envelope) declared inspected }
 {
     match inspected {
-        SetInspection::Refused(fault) => BatchGate::Refused(refusal_of(fault), 1),
-        SetInspection::Found => BatchGate::Refused(ShellRefusal::ChecksFailed, 1),
+        SetInspection::Refused(fault) => Err(fault.into()),
+        SetInspection::Found => Err(ShellRefusal::ChecksFailed.into()),
         SetInspection::Clean {
             patch_count,
             operation_count,
             absent,
-        } => match gates::evaluate_counts(
-            limits,
-            envelope,
-            declared,
-            patch_count as u64,
-            operation_count as u64,
-        ) {
-            BatchGate::Refused(refusal, logical) => BatchGate::Refused(refusal, logical),
-            BatchGate::Passed => check_targets(cursor, envelope, absent as u64),
-        },
+        } => {
+            gates::evaluate_counts(
+                limits,
+                envelope,
+                declared,
+                patch_count as u64,
+                operation_count as u64,
+            )?;
+            check_targets(absent as u64)?;
+            gates::evaluate_replay_compatibility(cursor, envelope)?;
+            Ok(())
+        }
     }
 }
 
@@ -85,19 +86,13 @@ pub fn check_batch(
     declared: u64,
     set: &[u8],
     edition: ProjectionPatchEdition,
-) -> BatchGate
+) -> Result<(), GateRefusal>
     ensures checked { (s : Session) → Seen s id limits state nodes.now bindings.now collections.now
         → gate_of result ≡ erased (batch_checks (edition_of edition) s (batch_envelope_of envelope) declared set.now) }
     ensures whatever { check_counted (gate_of result) ≡ true }
     ensures preflight { Decides (preflight_by id (limits_of limits) (lifecycle_of state.lifecycle) (batch_envelope_of envelope)) (gate_of result) }
 {
-    let lifecycle = state.lifecycle;
-    let cursor = state.replay_cursor;
-    match gates::evaluate_preflight(id, limits, lifecycle, envelope) {
-        BatchGate::Refused(refusal, logical) => BatchGate::Refused(refusal, logical),
-        BatchGate::Passed => {
-            let inspected = inspection::inspect_set(set, edition, nodes, bindings, collections);
-            check_inspection(limits, cursor, envelope, declared, inspected)
-        }
-    }
+    gates::evaluate_preflight(id, limits, state.lifecycle, envelope)?;
+    let inspected = inspection::inspect_set(set, edition, nodes, bindings, collections);
+    check_inspection(limits, state.replay_cursor, envelope, declared, inspected)
 }

@@ -2,7 +2,7 @@
 ghost use Rattle.std.specs.Prelude.{◌≡◌};
 ghost use Rattle.spec_session.specs.Batch.{takes_number};
 ghost use Rattle.session_lifecycle.specs.Meaning.{lifecycle_of, cursor_of, limits_of};
-ghost use Rattle.session_gates.specs.Gates.{gate_of, batch_envelope_of, preflight_by, counts_by, replay_by};
+ghost use Rattle.session_gates.specs.Gates.{one_refusal, step_of, batch_envelope_of, preflight_by, counts_by, replay_by};
 
 use session_lifecycle::diagnostics::ShellRefusal;
 use session_lifecycle::lifecycle;
@@ -18,11 +18,23 @@ pub struct OrderedProjectionPatchBatchEnvelope {
     pub stimulus_bytes: u64,
 }
 
-// A refusal comes with its logical count.
-#[derive(Drop)]
-pub enum BatchGate {
-    Passed,
-    Refused(ShellRefusal, u64),
+// A refusal with its logical count.
+#[derive(Clone, Copy)]
+pub struct GateRefusal {
+    pub refusal: ShellRefusal,
+    pub logical: u64,
+}
+
+// A rejection has one diagnostic, but for absent targets.
+impl From<ShellRefusal> for GateRefusal {
+    ghost from_gives = { λ refusal alone. alone ≡ one_refusal refusal };
+
+    fn from(refusal: ShellRefusal) -> GateRefusal {
+        GateRefusal {
+            refusal,
+            logical: 1,
+        }
+    }
 }
 
 // Steps 1 to 3: the session's own id, a lifecycle that is not Closed, declared figures within their limits.
@@ -31,23 +43,22 @@ pub fn evaluate_preflight(
     limits: ShellLifecycleLimits,
     lifecycle: ShellLifecycle,
     envelope: OrderedProjectionPatchBatchEnvelope,
-) -> BatchGate
-    ensures { gate_of result ≡ preflight_by id (limits_of limits) (lifecycle_of lifecycle) (batch_envelope_of envelope) }
+) -> Result<(), ShellRefusal>
+    ensures { step_of result ≡ preflight_by id (limits_of limits) (lifecycle_of lifecycle) (batch_envelope_of envelope) }
 {
-    let session_id = envelope.session_id;
-    if session_id.0 != id {
-        return BatchGate::Refused(ShellRefusal::SessionMismatch, 1);
+    if envelope.session_id.0 != id {
+        return Err(ShellRefusal::SessionMismatch);
     }
     if lifecycle::is_closed(lifecycle) {
-        return BatchGate::Refused(ShellRefusal::SessionClosed, 1);
+        return Err(ShellRefusal::SessionClosed);
     }
     if limits.max_patches_per_transition < envelope.patch_count {
-        return BatchGate::Refused(ShellRefusal::ResourceLimitExceeded, 1);
+        return Err(ShellRefusal::ResourceLimitExceeded);
     }
     if limits.max_transition_stimulus_bytes < envelope.stimulus_bytes {
-        return BatchGate::Refused(ShellRefusal::ResourceLimitExceeded, 1);
+        return Err(ShellRefusal::ResourceLimitExceeded);
     }
-    BatchGate::Passed
+    Ok(())
 }
 
 // Steps 5 and 6: both declared counts are the actual ones, and the target references are within their limit.
@@ -57,19 +68,19 @@ pub fn evaluate_counts(
     declared: u64,
     patches: u64,
     references: u64,
-) -> BatchGate
-    ensures { gate_of result ≡ counts_by (limits_of limits) (batch_envelope_of envelope) declared patches references }
+) -> Result<(), ShellRefusal>
+    ensures { step_of result ≡ counts_by (limits_of limits) (batch_envelope_of envelope) declared patches references }
 {
     if envelope.patch_count != patches {
-        return BatchGate::Refused(ShellRefusal::CountsDiffer, 1);
+        return Err(ShellRefusal::CountsDiffer);
     }
     if declared != references {
-        return BatchGate::Refused(ShellRefusal::CountsDiffer, 1);
+        return Err(ShellRefusal::CountsDiffer);
     }
     if limits.max_target_references_per_transition < references {
-        return BatchGate::Refused(ShellRefusal::ResourceLimitExceeded, 1);
+        return Err(ShellRefusal::ResourceLimitExceeded);
     }
-    BatchGate::Passed
+    Ok(())
 }
 
 // Whether the cursor takes a sequence number.
@@ -78,12 +89,7 @@ fn takes_number(cursor: ProjectionReplayCursor, number: u64) -> bool
 {
     match cursor {
         ProjectionReplayCursor::Uninitialized => true,
-        ProjectionReplayCursor::At(last) => {
-            if last == 0xffff_ffff_ffff_ffff {
-                return false;
-            }
-            number == last + 1
-        }
+        ProjectionReplayCursor::At(last) => last < u64::MAX && number == last + 1,
     }
 }
 
@@ -91,14 +97,14 @@ fn takes_number(cursor: ProjectionReplayCursor, number: u64) -> bool
 pub fn evaluate_replay_compatibility(
     cursor: ProjectionReplayCursor,
     envelope: OrderedProjectionPatchBatchEnvelope,
-) -> BatchGate
-    ensures { gate_of result ≡ replay_by (cursor_of cursor) (batch_envelope_of envelope) }
+) -> Result<(), ShellRefusal>
+    ensures { step_of result ≡ replay_by (cursor_of cursor) (batch_envelope_of envelope) }
 {
     if envelope.patch_count == 0 {
-        return BatchGate::Passed;
+        return Ok(());
     }
     if takes_number(cursor, envelope.sequence_no) {
-        return BatchGate::Passed;
+        return Ok(());
     }
-    BatchGate::Refused(ShellRefusal::ReplayCursorMismatch, 1)
+    Err(ShellRefusal::ReplayCursorMismatch)
 }

@@ -18,7 +18,7 @@ use local_projection_state::LocalProjectionState;
 use panel_changes::SetChange;
 use projection_patch::patch::ProjectionPatchEdition;
 use session_gates::batch;
-use session_gates::gates::{BatchGate, OrderedProjectionPatchBatchEnvelope};
+use session_gates::gates::{GateRefusal, OrderedProjectionPatchBatchEnvelope};
 use session_steps::answers::ProjectionPatchApplicationResult;
 use session_steps::{answers, checks};
 
@@ -120,7 +120,7 @@ pub fn apply_shaped<'a>(
         set,
         edition,
     );
-    if let BatchGate::Refused(refusal, logical) = gate {
+    if let Err(GateRefusal { refusal, logical }) = gate {
         return answers::rejected(cap, refusal, logical, cursor);
     }
     if checks::is_empty(envelope) {

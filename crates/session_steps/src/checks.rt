@@ -14,7 +14,7 @@ use active_projection_target_catalog::catalog;
 use active_projection_target_catalog::catalog::ActiveProjectionTargetCatalog;
 use projection_patch::patch::ProjectionPatchEdition;
 use session_gates::batch;
-use session_gates::gates::{BatchGate, OrderedProjectionPatchBatchEnvelope};
+use session_gates::gates::{GateRefusal, OrderedProjectionPatchBatchEnvelope};
 use session_lifecycle::state::{ShellLifecycleLimits, ShellLocalState, ShellSessionId};
 
 #[derive(Clone, Copy)]
@@ -39,24 +39,17 @@ pub struct LentAnchors {
 fn anchors_held(count: usize) -> usize
     ensures { result ≡ min count anchors }
 {
-    if count < ActiveProjectionTargetCatalog::ANCHORS {
-        return count;
-    }
-    ActiveProjectionTargetCatalog::ANCHORS
+    count.min(ActiveProjectionTargetCatalog::ANCHORS)
 }
 
 pub fn lent_anchors(catalog: ActiveProjectionTargetCatalog) -> LentAnchors
     ensures are { Lent (catalogue_of catalog) (take result.node_count result.nodes) (take result.binding_numbers result.bindings) (take result.collection_count result.collections) }
     ensures within { (result.node_count ≤ length result.nodes) × ((result.binding_numbers ≤ length result.bindings) × (result.collection_count ≤ length result.collections)) }
 {
-    let nodes = catalog.node_anchors;
-    let pairs = catalog.binding_anchors;
-    let bindings = catalog::pair_numbers(pairs);
-    let collections = catalog.collection_anchors;
     LentAnchors {
-        nodes,
-        bindings,
-        collections,
+        nodes: catalog.node_anchors,
+        bindings: catalog::pair_numbers(catalog.binding_anchors),
+        collections: catalog.collection_anchors,
         node_count: anchors_held(catalog.node_count),
         binding_numbers: 2 * anchors_held(catalog.binding_count),
         collection_count: anchors_held(catalog.collection_count),
@@ -71,27 +64,19 @@ pub fn check_session(
     declared: u64,
     set: &[u8],
     edition: ProjectionPatchEdition,
-) -> BatchGate
+) -> Result<(), GateRefusal>
     ensures checked { (s : Session) → SeenSession context state s → gate_of result ≡ erased (batch_checks (edition_of edition) s (batch_envelope_of envelope) declared set.now) }
     ensures whatever { check_counted (gate_of result) ≡ true }
     ensures preflight { Decides (preflight_by context.session_id.0 (limits_of context.limits) (lifecycle_of state.lifecycle) (batch_envelope_of envelope)) (gate_of result) }
 {
-    let session_id = context.session_id;
-    let limits = context.limits;
     let lent = lent_anchors(context.catalog);
-    let nodes = lent.nodes;
-    let bindings = lent.bindings;
-    let collections = lent.collections;
-    let node_count = lent.node_count;
-    let binding_numbers = lent.binding_numbers;
-    let collection_count = lent.collection_count;
     batch::check_batch(
-        session_id.0,
-        limits,
+        context.session_id.0,
+        context.limits,
         state,
-        &nodes[0..node_count],
-        &bindings[0..binding_numbers],
-        &collections[0..collection_count],
+        &lent.nodes[0..lent.node_count],
+        &lent.bindings[0..lent.binding_numbers],
+        &lent.collections[0..lent.collection_count],
         envelope,
         declared,
         set,

@@ -10,12 +10,9 @@ use session_lifecycle::state::{ProjectionReplayCursor, ShellLocalState};
 pub fn advanced(state: ShellLocalState, number: u64) -> ShellLocalState
     ensures { shell_state_of result ≡ moved_to (shell_state_of state) number }
 {
-    let session_id = state.session_id;
-    let lifecycle = state.lifecycle;
     ShellLocalState {
-        session_id,
-        lifecycle,
         replay_cursor: ProjectionReplayCursor::At(number),
+        ..state
     }
 }
 
@@ -23,11 +20,8 @@ pub fn advanced(state: ShellLocalState, number: u64) -> ShellLocalState
 pub fn next_state(state: ShellLocalState, res: ShellTransitionResult) -> ShellLocalState
     ensures { result ≡ next_state state res.disposition res.state }
 {
-    let disposition = res.disposition;
-    let next = res.state;
-    match disposition {
-        ShellTransitionDisposition::Applied => next,
-        ShellTransitionDisposition::NoChange => state,
-        ShellTransitionDisposition::Rejected => state,
+    match res.disposition {
+        ShellTransitionDisposition::Applied => res.state,
+        ShellTransitionDisposition::NoChange | ShellTransitionDisposition::Rejected => state,
     }
 }

@@ -8,7 +8,7 @@ use crate::tables;
 use local_projection_state::LocalProjectionState;
 use panel_changes::SetChange;
 use projection_patch::patch::ProjectionPatchEdition;
-use session_gates::gates::{BatchGate, OrderedProjectionPatchBatchEnvelope};
+use session_gates::gates::{GateRefusal, OrderedProjectionPatchBatchEnvelope};
 use session_steps::answers::ProjectionPatchApplicationResult;
 use session_steps::{answers, checks, states};
 
@@ -47,7 +47,7 @@ impl ShellSession {
         let cursor = state.replay_cursor;
         let declared = declared_target_reference_count;
         let gate = checks::check_session(context, state, envelope, declared, set, edition);
-        if let BatchGate::Refused(refusal, logical) = gate {
+        if let Err(GateRefusal { refusal, logical }) = gate {
             return batch_of(self, answers::rejected(cap, refusal, logical, cursor));
         }
         if checks::is_empty(envelope) {

@@ -1,27 +1,47 @@
 -- `check_inspection` meets its contract: the refusals of the pass, then the counts, then the targets and the cursor.
-use mathlib.Core.Path.{sym, ap, ◌∙◌}
+use Rattle.std.proofs.Common.{sym}
+use Rattle.projection_patch.specs.ReadAnswers.{fault_of}
+use Rattle.projection_patch.specs.declared.read_values.ProjectionPatchReadFault.{ProjectionPatchReadFault}
+use Rattle.projection_patch.specs.declared.read_values.ProjectionPatchReadFault.TheVariants.{Malformed, OverCapacity}
+use Rattle.spec_session.specs.Diagnostics.{of_reading}
 use Rattle.spec_session.specs.Batch.{refuse}
-use Rattle.session_gates.specs.Gates.{gate_of, inspection_by}
-use Rattle.session_gates.proofs.GatesLaws.{counts_refused, counts_passed}
-use borrow.Author.Rules.{rules}
+use Rattle.std.specs.Prelude.{◌≡◌, refl, Err}
+use Rattle.session_gates.specs.Gates.{gate_of, step_of, reading_refused, inspection_by, targets_by}
+use Rattle.session_gates.proofs.GatesLaws.{handed_on, one_handed_on}
 use Rattle.session_gates.proofs.batch.check_inspection.Goals as goal
 
+unread : (f : ProjectionPatchReadFault) → gate_of (Err (reading_refused f)) ≡ refuse (of_reading (fault_of f)) 1
+unfolding gate_of
+unread Malformed = refl
+unread OverCapacity = refl
+
 pub returns-in-Refused : goal.returns-in-Refused
-unfolding gate_of inspection_by
-returns-in-Refused c = rw c.in-Refused.is (ap (λ r. refuse r 1) c.refusal_of.ensures)
+unfolding inspection_by
+returns-in-Refused c = rw (c.in-Refused.is, c.into.ensures) (unread c.in-Refused.fault)
 
 pub returns-in-Found : goal.returns-in-Found
 unfolding gate_of inspection_by
-returns-in-Found c = rw c.in-Found.is
+returns-in-Found c = rw (c.in-Found.is, c.into-in-Found.ensures)
 
-pub returns-in-Refused-evaluate_counts : goal.returns-in-Refused-evaluate_counts
-unfolding gate_of
-returns-in-Refused-evaluate_counts c =
-    rw c.in-Clean.is
-    (counts_refused _ _ _ _ _ _ _ _ _ (ap gate_of (sym c.in-Refused-evaluate_counts.is) ∙ c.evaluate_counts.ensures))
+pub returns-in_err-evaluate_counts-in-Clean : goal.returns-in_err-evaluate_counts-in-Clean
+unfolding step_of inspection_by
+returns-in_err-evaluate_counts-in-Clean c =
+    rw (c.in-Clean.is, sym c.in_err-evaluate_counts-in-Clean.ensures)
+    (one_handed_on c.from_residual.result _ c.from_residual.ensures.1)
 
-pub returns-in-Passed : goal.returns-in-Passed
-unfolding gate_of
-returns-in-Passed c =
-    rw c.in-Clean.is
-    (counts_passed _ _ _ _ _ _ _ _ (ap gate_of (sym c.in-Passed.is) ∙ c.evaluate_counts.ensures) c.check_targets.ensures)
+pub returns-in_err-check_targets-in-Clean : goal.returns-in_err-check_targets-in-Clean
+unfolding gate_of step_of inspection_by targets_by
+returns-in_err-check_targets-in-Clean c =
+    rw (c.in-Clean.is, sym c.in_ok-evaluate_counts-in-Clean.ensures, sym c.in_err-check_targets-in-Clean.ensures)
+    (handed_on c.from_residual-in_err-check_targets-in-Clean.result _ c.from_residual-in_err-check_targets-in-Clean.ensures.1)
+
+pub returns-in_err-evaluate_replay_compatibility-in-Clean : goal.returns-in_err-evaluate_replay_compatibility-in-Clean
+unfolding gate_of step_of inspection_by targets_by
+returns-in_err-evaluate_replay_compatibility-in-Clean c =
+    rw (c.in-Clean.is, sym c.in_ok-evaluate_counts-in-Clean.ensures, sym c.in_ok-check_targets-in-Clean.ensures, sym c.in_err-evaluate_replay_compatibility-in-Clean.ensures)
+    (one_handed_on c.from_residual-in_err-evaluate_replay_compatibility-in-Clean.result _ c.from_residual-in_err-evaluate_replay_compatibility-in-Clean.ensures.1)
+
+pub returns-in_ok-evaluate_replay_compatibility-in-Clean : goal.returns-in_ok-evaluate_replay_compatibility-in-Clean
+unfolding gate_of step_of inspection_by targets_by
+returns-in_ok-evaluate_replay_compatibility-in-Clean c =
+    rw (c.in-Clean.is, sym c.in_ok-evaluate_counts-in-Clean.ensures, sym c.in_ok-check_targets-in-Clean.ensures, sym c.in_ok-evaluate_replay_compatibility-in-Clean.ensures)

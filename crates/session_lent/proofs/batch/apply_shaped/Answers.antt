@@ -11,10 +11,10 @@ use Rattle.session_lent.specs.BatchesLaws.{held_tables, kept_change, row_told, p
 use borrow.Author.Rules.{rules}
 use Rattle.session_lent.proofs.batch.apply_shaped.Goals as goal
 
-pub returns-in-Refused : goal.returns-in-Refused
+pub returns-in-Err : goal.returns-in-Err
 unfolding gate_of check_counted
-returns-in-Refused c =
-    let gate = ap gate_of (sym c.in-Refused.is) in
+returns-in-Err c =
+    let gate = ap gate_of (sym c.in-Err.is) in
     record {
       called = record {
         became = λ m l h room clear. lent_batch_rejects c.args.head.now c.args.nodes.now c.args.pairs.now c.args.collections.now c.args.bindings.now c.args.availability.now c.args.entries.now c.limits_in-limits.result c.state_in-state.result c.limits_in-limits.ensures c.state_in-state.ensures m l h _ _ _ _ _ _ _ _ _ _ _ _ (gate ∙ c.check_batch-gate.ensures.checked m (lent_seen c.args.head.now c.args.nodes.now c.args.pairs.now c.args.collections.now c.args.bindings.now c.args.availability.now c.args.entries.now c.limits_in-limits.result c.state_in-state.result c.limits_in-limits.ensures c.state_in-state.ensures m l h)) c.rejected.ensures;

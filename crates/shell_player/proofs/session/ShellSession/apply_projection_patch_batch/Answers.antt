@@ -62,10 +62,10 @@ handed c m ps h reads some =
     subst (λ (s : ShellSession). BatchBecame (batch_of s c.concluded-result.result) (commit m (batch_envelope_of c.args.envelope) (candidate m ps))) (sym c.with_tables-session.ensures)
     (commits_applied c.args.self m h (batch_envelope_of c.args.envelope) ps c.in-Applied.n _ _ _ _ c.advanced-moved.result c.concluded-result.result some stored c.advanced-moved.ensures (answered c))
 
-pub returns-in-Refused : goal.returns-in-Refused
+pub returns-in-Err : goal.returns-in-Err
 unfolding gate_of check_counted
-returns-in-Refused c =
-    let all = let gate = ap gate_of (sym c.in-Refused.is) in
+returns-in-Err c =
+    let all = let gate = ap gate_of (sym c.in-Err.is) in
     told _ _ c.batch_of.ensures (
       record { became = λ m h. batch_rejects _ m h _ _ _ _ _ _ _ (gate ∙ c.check_session-gate.ensures.checked m (struct_seen _ m h)) c.rejected.ensures },
       record {
