@@ -122,6 +122,7 @@ fn kept_size(operation: ProjectionPatchOperation) -> usize
 }
 
 // The bytes that an operation takes; 0 where its text is over its capacity.
+#[tactic(auto, unfolding(crate::specs::Parts::size_within))]
 pub fn operation_size(operation: ProjectionPatchOperation) -> usize
     ensures { result ≡ size_within operation }
 {

@@ -72,6 +72,7 @@ pub fn store_before(out: &mut [u8], at: usize, before: Option<CollectionKey>)
     }
 }
 
+#[tactic(auto, unfolding(spec_patch::specs::Encode::quad_byte))]
 pub fn quad_byte(state: ProjectionQuadState) -> u8
     ensures { result ≡ quad_byte (quad_of state) }
 {
@@ -83,6 +84,7 @@ pub fn quad_byte(state: ProjectionQuadState) -> u8
     }
 }
 
+#[tactic(auto, unfolding(spec_patch::specs::Encode::availability_byte))]
 pub fn availability_byte(availability: ProjectionNodeAvailability) -> u8
     ensures { result ≡ availability_byte (availability_value_of availability) }
 {
@@ -95,6 +97,7 @@ pub fn availability_byte(availability: ProjectionNodeAvailability) -> u8
     }
 }
 
+#[tactic(auto, unfolding(spec_patch::specs::Encode::encode_value, spec_patch::specs::Encode::kind_of, spec_patch::specs::Encode::value_body, spec_patch::specs::Encode::encode_text))]
 pub fn store_value(out: &mut [u8], at: usize, value: ProjectionPatchValue, texts: &[u8])
     requires { (at + value_size value ≤ length out.old) × WithinTexts texts.now (value_text value) }
     ensures { out.new ≡ overwrite out.old at (encode_value (value_of texts.now value)) }

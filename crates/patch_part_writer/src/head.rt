@@ -18,6 +18,7 @@ use projection_patch::widths;
 pub const DIGIT_AT: usize = 30;
 
 // The last letter of the heading.
+#[tactic(auto, unfolding(spec_patch::specs::Edition::edition_digit))]
 pub fn edition_digit(edition: ProjectionPatchEdition) -> u8
     ensures { result ≡ edition_digit (edition_of edition) }
 {

@@ -84,6 +84,7 @@ fn store_move(out: &mut [u8], at: usize, collection: u64, key: u64, before: Opti
 }
 
 // Whether RFC 3629 allows the text is tested before, once for the whole list.
+#[tactic(auto, unfolding(spec_patch::specs::Encode::encode_operation))]
 pub fn store_operation(out: &mut [u8], at: usize, operation: ProjectionPatchOperation, texts: &[u8])
     requires { (at + operation_size operation ≤ length out.old) × WithinTexts texts.now (operation_text operation) }
     ensures { out.new ≡ overwrite out.old at (encode_operation (operation_of texts.now operation)) }

@@ -15,10 +15,6 @@ use Rattle.patch_part_writer.specs.Extent.{before_size}
 use Rattle.patch_part_writer.proofs.Stored.{one_byte}
 use Rattle.patch_part_writer.proofs.fields.store_before.Goals as goal
 
-pub store_tagged-requires : goal.store_tagged-requires
-store_tagged-requires c =
-    subst (λ (w : code.Option CollectionKey). c.args.at + before_size w ≤ length c.args.out.now) c.in-Some.is c.requires
-
 pub returns-in-None : goal.returns-in-None
 unfolding encode_optional
 returns-in-None c =
