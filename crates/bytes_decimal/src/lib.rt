@@ -74,6 +74,7 @@ pub fn digits_of(n: u64) -> Digits
     let mut bytes = [0u8; Digits::MOST];
     let mut rest = n;
     let mut start: usize = Digits::MOST - 1;
+    // The last digit ends the loop, not the last place: a `for` over the places would need a break and the place beside it.
     while 10 <= rest {
         bytes[start] = 48 + (rest % 10) as u8;
         rest = rest / 10;

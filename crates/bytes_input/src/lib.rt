@@ -14,6 +14,7 @@ pub fn read_full<R: Read>(reader: &mut R, buf: &mut [u8]) -> io::Result<usize>
     ensures end { IfOk result (λ n. n < length buf.new → IsAtEnd (R.remaining reader.new)) }
 {
     let mut done = 0;
+    // A read gives as many bytes as it likes, so no range has these positions.
     while done < buf.len() {
         let n = reader.read(&mut buf[done..])?;
         if n == 0 {

@@ -46,3 +46,40 @@ tells_more text at n k x y l e u low high t =
     let z : bit_and y (high_bits n) * 2 ^ k + bit_and x (high_bits n) ≡ 0 =
     sym (and_block k y (high_bits n) x (high_bits n) u l) ∙ sym (ap₂ bit_and sum e) ∙ t in
     rw (← add_assoc) (ascii_joined (low (omega arith)) (high (none_of _ (2 ^ k) (pow_pos k) (omega arith))))
+
+-- eight bytes as the library reads them as a number
+module _ (text : List ℕ) (fits : (i : ℕ) → get_or text i 0 < 256) where
+  abbrev byte : ℕ → ℕ
+  byte at = get_or text at 0
+
+  abbrev pair : ℕ → ℕ
+  pair at = byte at + 0x100 * byte (at + 1)
+
+  abbrev quad : ℕ → ℕ
+  quad at = pair at + 0x10000 * pair (at + 2)
+
+  abbrev word : ℕ → ℕ
+  word at = quad at + 0x100000000 * quad (at + 4)
+
+  small_pair : (at : ℕ) → pair at < 0x10000
+  small_pair at = omega (arith, fits at, fits (at + 1))
+
+  tells_pair : (at : ℕ) → at + 2 ≤ length text → TellsAscii text at 2 (pair at)
+  tells_pair at h =
+      tells_more text at 1 8 (byte at) (byte (at + 1)) (omega arith) refl (fits at) (tells_byte text at (omega arith) (fits at)) (tells_byte text (at + 1) (omega arith) (fits (at + 1)))
+
+  tells_quad : (at : ℕ) → at + 4 ≤ length text → TellsAscii text at 4 (quad at)
+  tells_quad at h =
+      tells_more text at 2 16 (pair at) (pair (at + 2)) (omega arith) refl (small_pair at) (tells_pair at (omega arith)) (tells_pair (at + 2) (omega arith))
+
+  pub tells_word : (at : ℕ) → at + 8 ≤ length text → {x : ℕ}
+      → x ≡ byte at + byte (at + 1) * 256 + byte (at + 2) * 65536 + byte (at + 3) * 16777216 + byte (at + 4) * 4294967296 + byte (at + 5) * 1099511627776 + byte (at + 6) * 281474976710656 + byte (at + 7) * 72057594037927936
+      → TellsAscii text at 8 x
+  tells_word at h {x} e =
+      let third : at + 2 + 1 ≡ at + 3 = omega arith in
+      let seventh : at + 4 + 2 + 1 ≡ at + 7 = omega arith in
+      let sixth : at + 4 + 2 ≡ at + 6 = omega arith in
+      let fifth : at + 4 + 1 ≡ at + 5 = omega arith in
+      let same : x ≡ word at = rw (third, seventh, sixth, fifth) (omega (arith, e)) in
+      let small : quad at < 0x100000000 = omega (arith, small_pair at, small_pair (at + 2)) in
+      rw same (tells_more text at 4 32 (quad at) (quad (at + 4)) (omega arith) refl small (tells_quad at (omega arith)) (tells_quad (at + 4) (omega arith)))

@@ -78,33 +78,21 @@ fn character_length(classes: &[u8; 256], text: &[u8]) -> Option<usize>
     }
 }
 
-// A byte as a number, then two, four and eight: one load.
-fn byte_at(text: &[u8], at: usize) -> u64
-    requires { at + 1 ≤ length text.now }
-    ensures { (result < 0x100) × TellsAscii text.now at 1 result }
-{
-    text[at] as u64
-}
-
-fn pair_at(text: &[u8], at: usize) -> u64
-    requires { at + 2 ≤ length text.now }
-    ensures { (result < 0x10000) × TellsAscii text.now at 2 result }
-{
-    byte_at(text, at) + 0x100 * byte_at(text, at + 1)
-}
-
-fn quad_at(text: &[u8], at: usize) -> u64
-    requires { at + 4 ≤ length text.now }
-    ensures { (result < 0x100000000) × TellsAscii text.now at 4 result }
-{
-    pair_at(text, at) + 0x10000 * pair_at(text, at + 2)
-}
-
+// Eight bytes as a number: one load.
 fn word_at(text: &[u8], at: usize) -> u64
     requires { at + 8 ≤ length text.now }
     ensures { TellsAscii text.now at 8 result }
 {
-    quad_at(text, at) + 0x100000000 * quad_at(text, at + 4)
+    u64::from_le_bytes([
+        text[at],
+        text[at + 1],
+        text[at + 2],
+        text[at + 3],
+        text[at + 4],
+        text[at + 5],
+        text[at + 6],
+        text[at + 7],
+    ])
 }
 
 // Whether the 16 bytes there are below 0x80, told by the highest bits of two words.
@@ -123,6 +111,7 @@ fn groups_end(text: &[u8], from: usize) -> usize
     ensures { AsciiBetween text.now from result }
 {
     let mut i = from;
+    // The position is the answer: a `for` over the groups would count it beside them.
     while 16 <= text.len() - i {
         if !is_ascii(text, i) {
             return i;
@@ -192,6 +181,7 @@ fn row_end(classes: &[u8; 256], text: &[u8], from: Position, lead: u8, width: us
 {
     let mut at = from.at;
     let mut characters = from.characters;
+    // A turn ends where a character does, and may end the row: no range has these positions.
     while 2 * width <= text.len() - at {
         let one = character_end(classes, text, Position { at, characters }, lead, width);
         if one.at == at {
@@ -214,6 +204,7 @@ fn wide_end(classes: &[u8; 256], text: &[u8], from: Position) -> Position
 {
     let mut at = from.at;
     let mut characters = from.characters;
+    // Each character has its own length, so no range has these positions.
     while at < text.len() {
         let Some(length) = character_length(classes, &text[at..]) else {
             return Position { at, characters };
@@ -248,6 +239,7 @@ fn check_from(classes: &[u8; 256], text: &[u8], from: usize) -> Option<usize>
 {
     let mut characters = from;
     let mut i = from;
+    // A turn ends where a row does, so no range has these positions.
     while i < text.len() {
         let twos = row_end(classes, text, Position { at: i, characters }, 4, 2);
         let middle = twos.at;

@@ -1,9 +1,0 @@
--- `bytes_utf8::pair_at` meets its contract.
-use mathlib.Core.Path.{refl}
-use native.Mathlib.Omega.{arith}
-use Rattle.bytes_utf8.proofs.AsciiLaws.{tells_more}
-use Rattle.bytes_utf8.proofs.pair_at.Goals as goal
-
-pub returns : goal.returns
-returns c =
-    (omega arith, tells_more c.args.text.now c.args.at 1 8 _ _ (omega arith) refl c.byte_at.ensures.0 c.byte_at.ensures.1 c.byte_at-2.ensures.1)
