@@ -25,11 +25,9 @@ fn depend(set: &[u8], out: &mut [u64]) -> u64 {
 pub(crate) fn depend_often(set: &mut [u8], times: u64) -> u64 {
     let mut out = [0u64; LENT];
     let mut last = 0;
-    let mut left = times;
-    while 0 < left {
+    for left in (1..=times).rev() {
         bytes_wire::write_u64_at(set, SURFACE, left);
         last = depend(set, &mut out);
-        left -= 1;
     }
     last
 }

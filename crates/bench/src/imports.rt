@@ -27,10 +27,8 @@ fn import(list: &[u8], sequence: u64, out: &mut [u8]) -> u64 {
 pub(crate) fn import_often(list: &[u8], times: u64) -> u64 {
     let mut out = [0u8; ProjectionPatchSet::BYTES];
     let mut last = 0;
-    let mut left = times;
-    while 0 < left {
+    for left in (1..=times).rev() {
         last = import(list, left, &mut out);
-        left -= 1;
     }
     last
 }

@@ -1,7 +1,7 @@
 // Batches on a session in lent memory. Each reads the half in which the session stands and writes the other, in one plan's memory for all.
-use crate::sessions::SetCounts;
 use crate::{sessions, sums};
 use local_projection_state::LocalProjectionState;
+use patch_walk::SetCounts;
 use projection_patch::patch::ProjectionPatchEdition;
 use session_lent::{batch, creation, head};
 
@@ -11,10 +11,8 @@ const PAIR_NUMBERS: usize = 2 * sessions::NODES;
 // Slot 1 of each node.
 fn pairs() -> [u64; PAIR_NUMBERS] {
     let mut all = [1u64; PAIR_NUMBERS];
-    let mut i = 0;
-    while i < sessions::NODES {
+    for i in 0..sessions::NODES {
         all[2 * i] = i as u64 + 1;
-        i += 1;
     }
     all
 }
@@ -49,7 +47,7 @@ fn send<'a>(
         availability,
         entries,
         sessions::envelope(number, counts),
-        counts.operations,
+        counts.operation_count as u64,
         set,
         ProjectionPatchEdition::V1,
         to_head,
@@ -159,8 +157,7 @@ fn send_often(
     let away = sessions::counted(forth);
     let home = sessions::counted(back);
     let mut next = number;
-    let mut left = times;
-    while 0 < left {
+    for _ in 0..times {
         next = send_both(
             nodes,
             pairs,
@@ -184,7 +181,6 @@ fn send_often(
             plan_availability,
             plan_entries,
         );
-        left -= 1;
     }
     sums::rise(number, next)
 }

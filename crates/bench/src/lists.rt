@@ -40,10 +40,8 @@ fn binding(node: u64, len: usize) -> OperationPlace {
 // Nodes 1 to 128, each with a text of so many bytes.
 fn list(len: usize) -> ProjectionPatchSet {
     let mut operations = [binding(1, len); ProjectionPatchSet::PLACES];
-    let mut i = 0;
-    while i < ProjectionPatch::OPERATIONS {
+    for i in 0..ProjectionPatch::OPERATIONS {
         operations[i] = binding(i as u64 + 1, len);
-        i += 1;
     }
     ProjectionPatchSet {
         patch_count: 1,
@@ -53,20 +51,15 @@ fn list(len: usize) -> ProjectionPatchSet {
 }
 
 fn bytes(written: Result<usize, WriteRefusal>) -> u64 {
-    match written {
-        Ok(n) => n as u64,
-        Err(_) => 0,
-    }
+    written.map_or(0, |n| n as u64)
 }
 
 pub(crate) fn write_often(text: &[u8], times: u64) -> u64 {
     let set = list(text.len());
     let mut out = [0u8; ProjectionPatchSet::BYTES];
     let mut last = 0;
-    let mut left = times;
-    while 0 < left {
+    for _ in 0..times {
         last = bytes(write_patch_set(set, text, ProjectionPatchEdition::V1, &mut out));
-        left -= 1;
     }
     last
 }

@@ -18,10 +18,8 @@ fn look_up(way: u8, session: ShellSession, n: u64) -> u64 {
 
 pub(crate) fn look_up_often(way: u8, session: ShellSession, times: u64) -> u64 {
     let mut sum: u64 = 0;
-    let mut left = times;
-    while 0 < left {
+    for left in (1..=times).rev() {
         sum = sums::mix(sum, look_up(way, session, left));
-        left -= 1;
     }
     sum
 }

@@ -15,10 +15,8 @@ fn page_keys() -> [u64; PageLookup::KEYS]
     ensures { page_keys ≡ length result }
 {
     let mut keys = [0u64; PageLookup::KEYS];
-    let mut i: usize = 0;
-    while i < PageLookup::KEYS {
+    for i in 0..PageLookup::KEYS {
         keys[i] = (i as u64 * 17) % 120 + 1;
-        i += 1;
     }
     keys
 }
@@ -29,13 +27,11 @@ fn text_length(value: ValueLookup) -> u64 {
 
 fn look_up_singly(table: &[u8], count: usize, keys: &[u64]) -> u64 {
     let mut sum: u64 = 0;
-    let mut i: usize = 0;
-    while i < keys.len() {
+    for &key in keys {
         sum = sums::mix(
             sum,
-            text_length(panel_lookups::entry_value(table, count, 1, keys[i])),
+            text_length(panel_lookups::entry_value(table, count, 1, key)),
         );
-        i += 1;
     }
     sum
 }
@@ -50,12 +46,10 @@ fn look_up_page(table: &[u8], count: usize, keys: &[u64], answers: &mut [u8]) ->
 // Takes each row of a page apart.
 fn read_rows(answers: &[u8]) -> u64 {
     let mut sum: u64 = 0;
-    let mut i: usize = 0;
-    while i < PageLookup::KEYS {
+    for i in 0..PageLookup::KEYS {
         let row = bytes_records::record_at(answers, PageLookup::WIDTH, PageLookup::KEYS, i);
         let lookup = PageLookup::read(row);
         sum = sums::mix(sum, text_length(lookup.value));
-        i += 1;
     }
     sum
 }
@@ -87,10 +81,8 @@ pub(crate) fn use_pages(way: u8, session: ShellSession, times: u64) -> u64 {
     let keys = page_keys();
     let mut answers = [0u8; ANSWER_BYTES];
     let mut sum: u64 = 0;
-    let mut left = times;
-    while 0 < left {
+    for left in (1..=times).rev() {
         sum = sums::mix(sum, use_page(way, &table, count, &keys, &mut answers, left));
-        left -= 1;
     }
     sum
 }

@@ -28,8 +28,7 @@ pub(crate) fn replay_often(fill: &[u8], set: &[u8], times: u64) -> u64 {
         entries: LocalProjectionState::ENTRIES,
     };
     let mut sum: u64 = 0;
-    let mut left = times;
-    while 0 < left {
+    for _ in 0..times {
         let change = panel_changes::apply_set(
             &state.bindings,
             &state.availability,
@@ -46,7 +45,6 @@ pub(crate) fn replay_often(fill: &[u8], set: &[u8], times: u64) -> u64 {
         if let SetChange::Applied(counts) = change {
             sum = sums::mix(sum, counts.entries as u64);
         }
-        left -= 1;
     }
     sum
 }

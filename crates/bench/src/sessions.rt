@@ -13,36 +13,20 @@ use session_steps::answers::{
 };
 use shell_player::session::ShellSession;
 
-// How many patches and operations a set has.
-#[derive(Clone, Copy)]
-pub(crate) struct SetCounts {
-    pub(crate) patches: u64,
-    pub(crate) operations: u64,
-}
-
+// How many patches and operations a set has; none, where it is not readable.
 pub(crate) fn counted(set: &[u8]) -> SetCounts {
-    match patch_walk::read_set(set, ProjectionPatchEdition::V1) {
-        Ok(
-            SetCounts {
-                patch_count,
-                operation_count,
-            },
-        ) => SetCounts {
-            patches: patch_count as u64,
-            operations: operation_count as u64,
-        },
-        Err(_) => SetCounts {
-            patches: 0,
-            operations: 0,
-        },
-    }
+    let none = SetCounts {
+        patch_count: 0,
+        operation_count: 0,
+    };
+    patch_walk::read_set(set, ProjectionPatchEdition::V1).unwrap_or(none)
 }
 
 pub(crate) fn envelope(number: u64, counts: SetCounts) -> OrderedProjectionPatchBatchEnvelope {
     OrderedProjectionPatchBatchEnvelope {
         session_id: ShellSessionId(1),
         sequence_no: number,
-        patch_count: counts.patches,
+        patch_count: counts.patch_count as u64,
         stimulus_bytes: 1,
     }
 }
@@ -54,10 +38,8 @@ pub(crate) fn nodes() -> [u64; NODES]
     ensures { 64 ≡ length result }
 {
     let mut ids = [0u64; NODES];
-    let mut i = 0;
-    while i < NODES {
+    for i in 0..NODES {
         ids[i] = i as u64 + 1;
-        i += 1;
     }
     ids
 }
@@ -65,13 +47,11 @@ pub(crate) fn nodes() -> [u64; NODES]
 // Slot 1 of each node, and zeros behind them.
 fn pairs() -> [BindingPair; BindingAnchors::LENT] {
     let mut all = [BindingPair { node: 0, slot: 0 }; BindingAnchors::LENT];
-    let mut i = 0;
-    while i < NODES {
+    for i in 0..NODES {
         all[i] = BindingPair {
             node: i as u64 + 1,
             slot: 1,
         };
-        i += 1;
     }
     all
 }
@@ -105,7 +85,7 @@ pub(crate) fn filled(fill: &[u8]) -> ShellSession {
     let counts = counted(fill);
     let step = created().apply_projection_patch_batch(
         envelope(1, counts),
-        counts.operations,
+        counts.operation_count as u64,
         fill,
         ProjectionPatchEdition::V1,
     );
@@ -117,8 +97,7 @@ pub(crate) fn raised(count: u64, res: ProjectionPatchApplicationResult) -> u64 {
     let disposition = res.disposition;
     match disposition {
         ProjectionPatchApplicationDisposition::Applied => sums::after(count),
-        ProjectionPatchApplicationDisposition::NoChange => count,
-        ProjectionPatchApplicationDisposition::Rejected => count,
+        _ => count,
     }
 }
 
@@ -129,11 +108,10 @@ pub(crate) fn apply_often(session: ShellSession, forth: &[u8], back: &[u8], time
     let mut panel = session;
     let mut number: u64 = 2;
     let mut applied: u64 = 0;
-    let mut left = times;
-    while 0 < left {
+    for _ in 0..times {
         let one = panel.apply_projection_patch_batch(
             envelope(number, away),
-            away.operations,
+            away.operation_count as u64,
             forth,
             ProjectionPatchEdition::V1,
         );
@@ -143,7 +121,7 @@ pub(crate) fn apply_often(session: ShellSession, forth: &[u8], back: &[u8], time
         number = sums::after(number);
         let two = panel.apply_projection_patch_batch(
             envelope(number, home),
-            home.operations,
+            home.operation_count as u64,
             back,
             ProjectionPatchEdition::V1,
         );
@@ -151,7 +129,6 @@ pub(crate) fn apply_often(session: ShellSession, forth: &[u8], back: &[u8], time
         let second = two.result;
         applied = raised(applied, second);
         number = sums::after(number);
-        left -= 1;
     }
     applied
 }

@@ -3,7 +3,6 @@ use check_quick::quick_set;
 use check_quick::quick_set::QuickCheck;
 use check_set::check_set as set_check;
 use check_set::check_set::PatchSetCheck;
-use patch_walk::SetCounts;
 use projection_patch::patch::ProjectionPatchEdition;
 
 // The surface of the first patch, which no rule looks at; a new one for each use keeps the uses apart.
@@ -15,12 +14,7 @@ const LENT: usize = 48;
 // The number of operations, or the refusal's number.
 fn read(set: &[u8]) -> u64 {
     match patch_walk::read_set(set, ProjectionPatchEdition::V1) {
-        Ok(
-            SetCounts {
-                patch_count: _,
-                operation_count,
-            },
-        ) => operation_count as u64,
+        Ok(counts) => counts.operation_count as u64,
         Err(fault) => fault.number(),
     }
 }
@@ -61,11 +55,9 @@ fn use_once(way: u8, set: &[u8], findings: &mut [u64]) -> u64 {
 pub(crate) fn use_often(way: u8, set: &mut [u8], times: u64) -> u64 {
     let mut findings = [0u64; LENT];
     let mut last = 0;
-    let mut left = times;
-    while 0 < left {
+    for left in (1..=times).rev() {
         bytes_wire::write_u64_at(set, SURFACE, left);
         last = use_once(way, set, &mut findings);
-        left -= 1;
     }
     last
 }

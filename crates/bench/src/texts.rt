@@ -8,11 +8,9 @@ fn characters(text: &[u8]) -> u64 {
 // Checks the text; its first byte is a new digit each time, which keeps the uses apart.
 pub(crate) fn check_often(text: &mut [u8], times: u64) -> u64 {
     let mut last = 0;
-    let mut left = times;
-    while 0 < left {
+    for left in (1..=times).rev() {
         bytes_wire::write_u8_at(text, 0, b'0' + (left % 8) as u8);
         last = characters(text);
-        left -= 1;
     }
     last
 }

@@ -1,7 +1,7 @@
 // Answers a replay script from standard input, line by line: docs/DECISIONS.md, 'Replay'.
 #![tactic(auto)]
 
-ghost use Rattle.std.specs.Prelude.{◌≡◌, ◌≤◌, ◌<◌, length, take, IfOk};
+ghost use Rattle.std.specs.Prelude.{◌≡◌, ◌≤◌, ◌<◌, length, take, IfOk, IfSome};
 
 use script_calls::state::ReplayState;
 use script_parser::ScriptCommand;
@@ -18,13 +18,12 @@ const OUTPUT_BYTES: usize = 262144;
 // Line numbers go so far, and so many reads are made; no script uses them up.
 const BUDGET: u64 = u64::MAX;
 
-// The state after some lines, the number of the next, where it starts in what was read, and whether the replay stops there.
+// The state after some lines, the number of the next, and where it starts in what was read.
 #[derive(Drop)]
 struct Progress {
     state: ReplayState,
     number: u64,
     start: usize,
-    stopped: bool,
 }
 
 // Where an answer of the given length ends behind the used bytes; one that has no room is left out.
@@ -33,13 +32,8 @@ fn end_of_answer(printed: Option<usize>, used: usize, len: usize) -> usize
     ensures { result ≤ len }
 {
     match printed {
-        Some(count) => {
-            if len - used < count {
-                return used;
-            }
-            used + count
-        }
-        None => used,
+        Some(count) if count <= len - used => used + count,
+        _ => used,
     }
 }
 
@@ -57,10 +51,10 @@ fn write_if_full(rt: &impl Print, out: &[u8], used: usize) -> io::Result<usize>
 
 // The number of the line behind one.
 fn next_number(number: u64) -> u64 {
-    if number < BUDGET { number + 1 } else { number }
+    number.saturating_add(1)
 }
 
-// Runs the lines that an LF ends, and writes their answers. Before index seen there is no LF.
+// Runs the lines that an LF ends, and writes their answers; None where the replay stops. Before index seen there is no LF.
 fn run_lines(
     rt: &impl Print,
     before: ReplayState,
@@ -68,9 +62,9 @@ fn run_lines(
     input: &[u8],
     seen: usize,
     out: &mut [u8],
-) -> io::Result<Progress>
+) -> io::Result<Option<Progress>>
     requires { seen ≤ length input.now }
-    ensures { IfOk result (λ after. after.start ≤ length input.now) }
+    ensures { IfOk result (λ after. IfSome after (λ lines. lines.start ≤ length input.now)) }
 {
     let mut state = before;
     let mut number = first;
@@ -87,24 +81,18 @@ fn run_lines(
         start = next;
         if step.stopped {
             rt.write_all(&out[0..used])?;
-            return Ok(Progress {
-                state,
-                number,
-                start,
-                stopped: true,
-            });
+            return Ok(None);
         }
         used = write_if_full(rt, out, used)?;
         number = next_number(number);
         end = script_reader::line_end(input, start);
     }
     rt.write_all(&out[0..used])?;
-    Ok(Progress {
+    Ok(Some(Progress {
         state,
         number,
         start,
-        stopped: false,
-    })
+    }))
 }
 
 // Reads behind the bytes that are kept, and answers where the bytes end then. A line that is too long is not read on.
@@ -150,10 +138,9 @@ fn replay(rt: &(impl Input + Print), input: &mut [u8], out: &mut [u8]) -> io::Re
         if end == kept {
             return print_rest(rt, number, kept);
         }
-        let after = run_lines(rt, state, number, &input[0..end], kept, out)?;
-        if after.stopped {
+        let Some(after) = run_lines(rt, state, number, &input[0..end], kept, out)? else {
             return Ok(());
-        }
+        };
         state = after.state;
         number = after.number;
         kept = keep(input, after.start, end);

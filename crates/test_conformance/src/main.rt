@@ -124,7 +124,7 @@ fn compare(printed: Option<usize>, out: &[u8], answers: &[u8], from: usize) -> C
 
 // One more, of lines or of cases; no file has as many as there are numbers.
 fn one_more(count: u64) -> u64 {
-    if count < u64::MAX { count + 1 } else { count }
+    count.saturating_add(1)
 }
 
 // Whether a script is answered with these answers, and no others.

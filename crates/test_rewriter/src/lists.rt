@@ -6,15 +6,13 @@ use projection_patch::patch::{
     ProjectionPatchSet, ProjectionPatchStreamId, ProjectionPatchValue,
 };
 use projection_patch::read_operations;
-use std::num;
 
-// A list as far as it was read: its operations so far, where the next part starts, and whether all was readable.
+// A list as far as it was read: its operations so far, and where the next part starts.
 #[derive(Clone, Copy)]
-pub(crate) struct ListRead {
-    pub(crate) list: ProjectionPatchSet,
-    pub(crate) used: usize,
-    pub(crate) at: usize,
-    pub(crate) is_read: bool,
+struct ListRead {
+    list: ProjectionPatchSet,
+    used: usize,
+    at: usize,
 }
 
 fn nothing() -> ProjectionPatch {
@@ -47,13 +45,10 @@ fn unused() -> OperationPlace {
 fn moved_value(value: ProjectionPatchValue, by: usize) -> ProjectionPatchValue {
     match value {
         ProjectionPatchValue::Text { start, len } => ProjectionPatchValue::Text {
-            start: num::wrapping_add_usize(start, by),
+            start: start.wrapping_add(by),
             len,
         },
-        ProjectionPatchValue::Quad(_) => value,
-        ProjectionPatchValue::SignedScalar(_) => value,
-        ProjectionPatchValue::UnsignedScalar(_) => value,
-        ProjectionPatchValue::Score(_) => value,
+        _ => value,
     }
 }
 
@@ -89,46 +84,31 @@ fn moved(operation: ProjectionPatchOperation, by: usize) -> ProjectionPatchOpera
     }
 }
 
-// Reads so many operations behind those that were read.
+// Reads so many operations behind those that were read; None where one is not readable.
 fn with_operations(
     before: ListRead,
     set: &[u8],
     count: usize,
     edition: ProjectionPatchEdition,
-) -> ListRead {
+) -> Option<ListRead> {
     let mut list = before.list;
     let mut operations = list.operations;
     let mut used = before.used;
     let mut at = before.at;
-    let mut left = count;
-    while 0 < left {
-        if set.len() < at {
-            return before;
-        }
+    for _ in 0..count {
         if ProjectionPatchSet::PLACES <= used {
-            return before;
+            return None;
         }
-        match read_operations::read_operation(&set[at..], edition) {
-            Ok((operation, taken)) => {
-                operations[used] = OperationPlace {
-                    operation: moved(operation, at),
-                };
-                used += 1;
-                at = num::wrapping_add_usize(at, taken);
-                left -= 1;
-            }
-            Err(_) => {
-                return before;
-            }
-        }
+        let part = set.get(at..)?;
+        let (operation, taken) = read_operations::read_operation(part, edition).ok()?;
+        operations[used] = OperationPlace {
+            operation: moved(operation, at),
+        };
+        used += 1;
+        at = at.wrapping_add(taken);
     }
     list.operations = operations;
-    ListRead {
-        list,
-        used,
-        at,
-        is_read: true,
-    }
+    Some(ListRead { list, used, at })
 }
 
 // Reads the patch behind those that were read.
@@ -137,69 +117,35 @@ fn with_patch(
     set: &[u8],
     index: usize,
     edition: ProjectionPatchEdition,
-) -> ListRead {
-    let mut next = before;
-    next.is_read = false;
-    let at = before.at;
-    if set.len() < at {
-        return next;
-    }
+) -> Option<ListRead> {
     if ProjectionPatchSet::PATCHES <= index {
-        return next;
+        return None;
     }
-    match patch_sets::read_patch_head(&set[at..]) {
-        Ok((head, taken)) => {
-            let mut list = next.list;
-            let mut patches = list.patches;
-            patches[index] = head;
-            list.patches = patches;
-            next.list = list;
-            next.at = num::wrapping_add_usize(at, taken);
-            with_operations(next, set, head.operation_count, edition)
-        }
-        Err(_) => next,
-    }
-}
-
-// Reads so many patches behind the heading.
-fn with_patches(
-    heading: ListRead,
-    set: &[u8],
-    count: usize,
-    edition: ProjectionPatchEdition,
-) -> ListRead {
-    let mut read = heading;
-    let mut index = 0;
-    while index < count {
-        read = with_patch(read, set, index, edition);
-        if !read.is_read {
-            return read;
-        }
-        index += 1;
-    }
-    read
-}
-
-pub(crate) fn list_of(set: &[u8], edition: ProjectionPatchEdition) -> ListRead {
-    let mut read = ListRead {
-        list: ProjectionPatchSet {
-            patch_count: 0,
-            patches: [nothing(); ProjectionPatchSet::PATCHES],
-            operations: [unused(); ProjectionPatchSet::PLACES],
-        },
-        used: 0,
-        at: 0,
-        is_read: false,
+    let part = set.get(before.at..)?;
+    let (head, taken) = patch_sets::read_patch_head(part).ok()?;
+    let mut list = before.list;
+    let mut patches = list.patches;
+    patches[index] = head;
+    list.patches = patches;
+    let next = ListRead {
+        list,
+        used: before.used,
+        at: before.at.wrapping_add(taken),
     };
-    match patch_sets::read_heading(set, edition) {
-        Ok((count, at)) => {
-            let mut list = read.list;
-            list.patch_count = count;
-            read.list = list;
-            read.at = at;
-            read.is_read = true;
-            with_patches(read, set, count, edition)
-        }
-        Err(_) => read,
+    with_operations(next, set, head.operation_count, edition)
+}
+
+// The list of a set that is readable.
+pub(crate) fn list_of(set: &[u8], edition: ProjectionPatchEdition) -> Option<ProjectionPatchSet> {
+    let (count, at) = patch_sets::read_heading(set, edition).ok()?;
+    let list = ProjectionPatchSet {
+        patch_count: count,
+        patches: [nothing(); ProjectionPatchSet::PATCHES],
+        operations: [unused(); ProjectionPatchSet::PLACES],
+    };
+    let mut read = ListRead { list, used: 0, at };
+    for index in 0..count {
+        read = with_patch(read, set, index, edition)?;
     }
+    Some(read.list)
 }

@@ -19,40 +19,32 @@ const LINE_BYTES: usize = 65537;
 
 // The digit of a value below 16.
 fn digit(value: u8) -> u8 {
-    if value < 10 {
-        return 48 + value;
-    }
-    87 + value % 16
+    if value < 10 { b'0' + value } else { b'a' - 10 + value % 16 }
 }
 
 // Prints bytes in hex, and the line's end.
 fn print_line(rt: &impl Print, bytes: &[u8]) -> io::Result<()> {
     let mut line = [10u8; LINE_BYTES];
-    let mut i = 0;
-    while i < bytes.len() {
-        if ProjectionPatchSet::BYTES <= i {
-            return Ok(());
-        }
-        let byte = bytes[i];
-        line[2 * i] = digit(byte / 16);
-        line[2 * i + 1] = digit(byte % 16);
-        i += 1;
+    if ProjectionPatchSet::BYTES < bytes.len() {
+        return Ok(());
     }
-    let end = 2 * i + 1;
-    rt.write_all(&line[0..end])
+    for i in 0..bytes.len() {
+        line[2 * i] = digit(bytes[i] / 16);
+        line[2 * i + 1] = digit(bytes[i] % 16);
+    }
+    rt.write_all(&line[..2 * bytes.len() + 1])
 }
 
 // Writes the list of a set that is read in the edition, and prints what was written; false where there is none.
 fn rewrite_in(rt: &impl Print, set: &[u8], edition: ProjectionPatchEdition) -> io::Result<bool> {
-    let read = lists::list_of(set, edition);
+    let Some(list) = lists::list_of(set, edition) else {
+        return Ok(false);
+    };
     let mut out = [0u8; ProjectionPatchSet::BYTES];
-    if read.is_read {
-        let list = read.list;
-        if let Ok(n) = write_patch_set(list, set, edition, &mut out) {
-            if n <= ProjectionPatchSet::BYTES {
-                print_line(rt, &out[0..n])?;
-                return Ok(true);
-            }
+    if let Ok(n) = write_patch_set(list, set, edition, &mut out) {
+        if n <= ProjectionPatchSet::BYTES {
+            print_line(rt, &out[0..n])?;
+            return Ok(true);
         }
     }
     Ok(false)

@@ -50,10 +50,8 @@ fn text(start: usize, len: usize) -> OperationPlace {
 fn heads(first: usize, later: usize) -> [ProjectionPatch; ProjectionPatchSet::PATCHES] {
     let mut patches = [head(first); ProjectionPatchSet::PATCHES];
     let other = head(later);
-    let mut p: usize = 24;
-    while p < ProjectionPatchSet::PATCHES {
+    for p in 24..ProjectionPatchSet::PATCHES {
         patches[p] = other;
-        p += 1;
     }
     patches
 }

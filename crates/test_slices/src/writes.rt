@@ -25,11 +25,9 @@ fn wide(byte: u8) -> u32
 fn adler32(bytes: &[u8]) -> u64 {
     let mut a: u32 = 1;
     let mut b: u32 = 0;
-    let mut i: usize = 0;
-    while i < bytes.len() {
-        a = (a + wide(bytes[i])) % 65521;
+    for &byte in bytes {
+        a = (a + wide(byte)) % 65521;
         b = (b + a) % 65521;
-        i += 1;
     }
     (b as u64) * 65536 + (a as u64)
 }
@@ -76,10 +74,8 @@ fn wide_byte(i: usize) -> u8 {
 // Texts of each width, and a byte at 725 that is in no text.
 pub(crate) fn wide_texts() -> [u8; WIDE_TEXTS] {
     let mut texts = [0xffu8; WIDE_TEXTS];
-    let mut i: usize = 0;
-    while i < WIDE_TEXTS - 1 {
+    for i in 0..WIDE_TEXTS - 1 {
         texts[i] = wide_byte(i);
-        i += 1;
     }
     texts
 }

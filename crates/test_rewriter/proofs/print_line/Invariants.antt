@@ -1,9 +1,6 @@
--- `print_line` stays in its line and ends: two digits are written for each byte.
-use Rattle.std.proofs.Common.{◌≡◌, ◌-◌, ◌≤◌, length}
+-- `print_line` stays in its line: two digits are written for each byte.
+use Rattle.std.proofs.Common.{◌≡◌, length}
 use Rattle.test_rewriter.proofs.print_line.Given as goal
 
 abbrev pub invariant-loop-i : goal.invariant-loop-i
-invariant-loop-i g l = (length l.line ≡ 65537) × (l.i ≤ 32768)
-
-abbrev pub decreases-loop-i : goal.decreases-loop-i
-decreases-loop-i g l = length l.bytes - l.i
+invariant-loop-i g l = length l.line ≡ 65537
