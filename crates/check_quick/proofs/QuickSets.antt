@@ -21,7 +21,8 @@ use Rattle.spec_projection.specs.Apply.{operations_of}
 use Rattle.projection_patch.specs.Meaning.{envelope_of}
 use Rattle.projection_patch.specs.ReadAnswers.{fault_to, anywhere}
 use Rattle.projection_patch.specs.declared.read_values.ProjectionPatchReadFault.{ProjectionPatchReadFault}
-use Rattle.projection_patch.proofs.Answers.{ToldReading, Got, NotGot, got, not_got}
+use Rattle.std.specs.Prelude as code
+use Rattle.projection_patch.proofs.Answers.{Got, NotGot, got, not_got}
 use Rattle.patch_sets.specs.SetAnswers.{operation_count_lem}
 use Rattle.check_findings.specs.IdsLaws.{ids_snoc}
 use Rattle.check_targets.specs.ToldLaws.{envelope_back}
@@ -31,27 +32,17 @@ use Rattle.check_quick.specs.Quick.{patch_found, after_found, patches_found, AtM
 use Rattle.check_quick.specs.QuickLaws.{or_assoc, or_false, quick_found, at_most_more}
 use Rattle.check_quick.specs.QuickAnswers.{quick_checked_to, patch_answer, inspected_by, quick_end_answer}
 use Rattle.check_quick.specs.declared.quick_patches.PatchChecked.{PatchChecked}
-use Rattle.check_quick.specs.declared.quick_patches.PatchCheckRead.{PatchCheckRead}
-use Rattle.check_quick.specs.declared.quick_patches.PatchCheckRead.TheVariants as patch_read
 use Rattle.check_quick.specs.declared.inspection.SetInspection.{SetInspection}
 use Rattle.check_quick.specs.declared.inspection.SetInspection.TheVariants as inspection
 
 -- ---- a patch's answer taken apart
 
-patch_told : ToldReading patch_read.Read patch_read.Refused
-patch_told = record {
-  value = λ x y m n e. cc;
-  next = λ x y m n e. cc;
-  reason = λ f g e. cc;
-  apart = λ x m f e. let z : ◌≡◌ {A = ℕ} 0 1 = cc in omega arith;
-}
+module _ (ed : Edition) (known : MutationTarget → Bool) (l : List ℕ) (at : ℕ) {r : code.Result (PatchChecked × ℕ) ProjectionPatchReadFault} (ensured : r ≡ patch_answer known (length l) (read_patch ed (drop at l))) where
+  pub patch_got : Bytes l → {x : PatchChecked} {end : ℕ} → r ≡ code.Ok (x, end) → Got (read_patch ed) (anywhere (quick_checked_to known)) l at x end
+  patch_got bytes {x} {end} = got (anywhere (quick_checked_to known)) (patch_codec ed) l at r ensured bytes x end
 
-module _ (ed : Edition) (known : MutationTarget → Bool) (l : List ℕ) (at : ℕ) {r : PatchCheckRead} (ensured : r ≡ patch_answer known (length l) (read_patch ed (drop at l))) where
-  pub patch_got : Bytes l → {x : PatchChecked} {end : ℕ} → r ≡ patch_read.Read x end → Got (read_patch ed) (anywhere (quick_checked_to known)) l at x end
-  patch_got bytes {x} {end} = got (anywhere (quick_checked_to known)) (patch_codec ed) patch_told l at r ensured bytes x end
-
-  pub no_patch : {f : ProjectionPatchReadFault} → r ≡ patch_read.Refused f → NotGot (read_patch ed) l at f
-  no_patch {f} = not_got (anywhere (quick_checked_to known)) (patch_codec ed) patch_told l at r ensured f
+  pub no_patch : {f : ProjectionPatchReadFault} → r ≡ code.Err f → NotGot (read_patch ed) l at f
+  no_patch {f} = not_got (anywhere (quick_checked_to known)) (patch_codec ed) l at r ensured f
 
 -- ---- the bytes of a patch
 
@@ -102,19 +93,22 @@ pub record PassedPatches : Type 0 where
   pub absent : ℕ
   pub found : Bool
 
+abbrev Inspected : Type 0
+Inspected = code.Result SetInspection ProjectionPatchReadFault
+
 -- an answer where there is no refusal
-abbrev told : Bool → ℕ → ℕ → ℕ → SetInspection
-told found n m k = if found then inspection.Found else inspection.Clean n m k
+abbrev told : Bool → ℕ → ℕ → ℕ → Inspected
+told found n m k = code.Ok (if found then inspection.Found else inspection.Clean n m k)
 
 same_told : {b c : Bool} {n m k n' m' k' : ℕ} → b ≡ c → n ≡ n' → m ≡ m' → k ≡ k' → told b n m k ≡ told c n' m' k'
 same_told p q r s = λ i. told (p i) (q i) (r i) (s i)
 
 -- the answer of the patches that are left, after others with these ids, the last of them with the previous envelope
-abbrev after : (MutationTarget → Bool) → PassedPatches → List ℕ → Option Envelope → SetReading → SetInspection
+abbrev after : (MutationTarget → Bool) → PassedPatches → List ℕ → Option Envelope → SetReading → Inspected
 after known t ids previous (patches ps) = told (t.found || patches_found ids previous ps) (t.done + length ps) (t.operations + operation_count_lem ps) (t.absent + absent_of known (operations_of ps))
-after known t ids previous (fault f) = inspection.Refused (fault_to f)
+after known t ids previous (fault f) = code.Err (fault_to f)
 
-abbrev pub patches_left : Edition → (MutationTarget → Bool) → List ℕ → (at left : ℕ) → PassedPatches → List ℕ → Option Envelope → SetInspection
+abbrev pub patches_left : Edition → (MutationTarget → Bool) → List ℕ → (at left : ℕ) → PassedPatches → List ℕ → Option Envelope → Inspected
 patches_left ed known l at left t ids previous = after known t ids previous (ended (many left (read_patch ed) (drop at l)))
 
 abbrev pub passed_patches : ℕ → ℕ → ℕ → Bool → PassedPatches
@@ -139,12 +133,12 @@ module _ (ed : Edition) (known : MutationTarget → Bool) (l : List ℕ) (at lef
         go (b ∷ rest) h = rw (lt-ltb 0 (length l - at) (omega arith))
 
     module _ (more : 0 < left) where
-      one_more : (ids : List ℕ) (r : SetInspection) → r ≡ patches_left ed known l at (suc (left - 1)) t ids previous → r ≡ patches_left ed known l at left t ids previous
+      one_more : (ids : List ℕ) (r : Inspected) → r ≡ patches_left ed known l at (suc (left - 1)) t ids previous → r ≡ patches_left ed known l at left t ids previous
       one_more ids r e = let same : suc (left - 1) ≡ left = omega arith in e ∙ ap (λ (n : ℕ). patches_left ed known l at n t ids previous) same
 
-      pub patch_refused : (ids : List ℕ) (f : ProjectionPatchReadFault) → NotGot (read_patch ed) l at f → inspection.Refused f ≡ patches_left ed known l at left t ids previous
+      pub patch_refused : (ids : List ℕ) (f : ProjectionPatchReadFault) → NotGot (read_patch ed) l at f → code.Err f ≡ patches_left ed known l at left t ids previous
       unfolding many ended
-      patch_refused ids f g = one_more ids (inspection.Refused f) (rw (g.is, g.same))
+      patch_refused ids f g = one_more ids (code.Err f) (rw (g.is, g.same))
 
       module _ (x : PatchChecked) (end : ℕ) (g : Got (read_patch ed) (anywhere (quick_checked_to known)) l at x end) where
         abbrev p : Patch
@@ -154,7 +148,7 @@ module _ (ed : Edition) (known : MutationTarget → Bool) (l : List ℕ) (at lef
         abbrev next : Envelope → PatchChecked → Bool → PassedPatches
         next e y found = passed_patches (t.done + 1) (t.operations + y.head.operation_count) (t.absent + y.absent) found
 
-        abbrev behind : List ℕ → Envelope → PatchChecked → SetInspection
+        abbrev behind : List ℕ → Envelope → PatchChecked → Inspected
         behind ids e y = patches_left ed known l end (left - 1) (next e y ((t.found || y.found) || after_found ids previous e)) (ids ++ (e.id ∷ [])) (some e)
 
         step : (ids : List ℕ) → behind ids p.envelope (quick_checked_to known p) ≡ patches_left ed known l at left t ids previous

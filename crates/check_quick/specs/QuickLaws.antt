@@ -1,5 +1,6 @@
 -- What is told element by element is whether spec_checks finds anything.
 use Rattle.std.specs.Prelude.{ℕ, ◌+◌, ◌≤◌, ◌<◌, ◌≡◌, refl, Bool, true, false, ◌||◌, eqb, length, if◌then◌else◌}
+use Rattle.std.specs.Prelude as code
 use Rattle.std.proofs.Common.{sym, ap, ap₂, ◌∙◌, arith, ne_eqb}
 use mathlib.Core.List.{List, [], ◌∷◌, ◌++◌, map, flat_map, reverse, reverse-append}
 use Rattle.std.proofs.Math.Option.{Option, none, some}
@@ -24,6 +25,7 @@ use Rattle.check_findings.specs.Found.{is_found}
 use Rattle.check_findings.specs.FoundLaws.{found_append, found_report}
 use Rattle.check_quick.specs.Anchors.{absent_of}
 use Rattle.check_quick.specs.QuickAnswers.{inspected_by, quick_answer}
+use Rattle.projection_patch.specs.declared.read_values.ProjectionPatchReadFault.{ProjectionPatchReadFault}
 use Rattle.check_quick.specs.declared.inspection.SetInspection.{SetInspection}
 use Rattle.check_quick.specs.declared.inspection.SetInspection.TheVariants as inspection
 use Rattle.check_quick.specs.declared.quick_set.QuickCheck.{QuickCheck}
@@ -176,16 +178,19 @@ at_most_more highest higher id (n ∷ ids) h up below = (omega (arith, h.0), at_
 
 -- ---- without the absent targets
 
-abbrev pub quick_of : SetInspection → QuickCheck
-quick_of (inspection.Clean n m k) = quick.Clean n m
-quick_of inspection.Found = quick.Found
-quick_of (inspection.Refused f) = quick.Refused f
+abbrev pub quick_case : SetInspection → QuickCheck
+quick_case (inspection.Clean n m k) = quick.Clean n m
+quick_case inspection.Found = quick.Found
+
+abbrev pub quick_of : code.Result SetInspection ProjectionPatchReadFault → code.Result QuickCheck ProjectionPatchReadFault
+quick_of (code.Ok i) = code.Ok (quick_case i)
+quick_of (code.Err f) = code.Err f
 
 pub quick_is : (known : MutationTarget → Bool) (x : SetReading) → quick_of (inspected_by known x) ≡ quick_answer x
 unfolding inspected_by
 quick_is known (patches ps) = go (is_found (findings ps).found)
   where
-    go : (t : Bool) → quick_of (if t then inspection.Found else inspection.Clean (length ps) (operation_count_lem ps) (absent_of known (operations_of ps))) ≡ (if t then quick.Found else quick.Clean (length ps) (operation_count_lem ps))
+    go : (t : Bool) → quick_of (code.Ok (if t then inspection.Found else inspection.Clean (length ps) (operation_count_lem ps) (absent_of known (operations_of ps)))) ≡ code.Ok (if t then quick.Found else quick.Clean (length ps) (operation_count_lem ps))
     go true = refl
     go false = refl
 quick_is known (fault f) = refl

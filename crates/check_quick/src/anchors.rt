@@ -15,13 +15,11 @@ fn contains_target(
 ) -> bool
     ensures { result ≡ anchored nodes.now bindings.now collections.now (check_target_of target) }
 {
-    if target.kind == 1 {
-        return membership::contains_binding(bindings, target.first, target.second);
+    match target.kind {
+        1 => membership::contains_binding(bindings, target.first, target.second),
+        2 => membership::contains_id(nodes, target.first),
+        _ => membership::contains_id(collections, target.first),
     }
-    if target.kind == 2 {
-        return membership::contains_id(nodes, target.first);
-    }
-    membership::contains_id(collections, target.first)
 }
 
 pub fn one_if_absent(
@@ -33,9 +31,10 @@ pub fn one_if_absent(
     ensures { result ≡ absent_one (anchored nodes.now bindings.now collections.now) (check_target_of target) }
 {
     if contains_target(nodes, bindings, collections, target) {
-        return 0;
+        0
+    } else {
+        1
     }
-    1
 }
 
 // How many of the targets, three numbers each, are absent. Where nothing is lent, all are.
@@ -45,19 +44,15 @@ pub fn absent_among(targets: &[u64], nodes: &[u64], bindings: &[u64], collection
     if nodes.len() + bindings.len() + collections.len() == 0 {
         return targets.len() / MutationTarget::NUMBERS;
     }
-    let mut at = 0;
     let mut absent = 0;
-    while MutationTarget::NUMBERS <= targets.len() - at {
-        let kind = targets[at];
-        let first = targets[at + 1];
-        let second = targets[at + 2];
+    for i in 0..targets.len() / MutationTarget::NUMBERS {
+        let at = MutationTarget::NUMBERS * i;
         let target = MutationTarget {
-            kind,
-            first,
-            second,
+            kind: targets[at],
+            first: targets[at + 1],
+            second: targets[at + 2],
         };
-        absent = absent + one_if_absent(nodes, bindings, collections, target);
-        at += MutationTarget::NUMBERS;
+        absent += one_if_absent(nodes, bindings, collections, target);
     }
     absent
 }

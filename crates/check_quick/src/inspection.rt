@@ -8,7 +8,6 @@ ghost use Rattle.check_quick.specs.Quick.{RoomForIds};
 ghost use Rattle.check_quick.specs.QuickAnswers.{inspection_answer, quick_end_answer};
 
 use crate::quick_patches;
-use crate::quick_patches::{PatchCheckRead, PreviousEnvelope};
 use projection_patch::patch::{ProjectionPatchEdition, ProjectionPatchSet};
 use projection_patch::read_values::ProjectionPatchReadFault;
 
@@ -17,8 +16,8 @@ const SHORT_BYTES: usize = 512;
 // The patches that so many bytes hold; each takes 61 or more.
 const SHORT_PATCHES: usize = 8;
 
-// Clean: the set has no findings, so many patches and operations, and so many operations whose target is absent.
-#[derive(Drop)]
+// What a readable set is: without findings, with so many patches and operations, and so many operations whose target is absent; or with some.
+#[derive(Clone, Copy)]
 pub enum SetInspection {
     Clean {
         patch_count: usize,
@@ -26,7 +25,6 @@ pub enum SetInspection {
         absent: usize,
     },
     Found,
-    Refused(ProjectionPatchReadFault),
 }
 
 // The answer behind the last patch, where so many bytes are left.
@@ -36,20 +34,20 @@ fn at_end(
     patch_count: usize,
     operation_count: usize,
     absent: usize,
-) -> SetInspection
+) -> Result<SetInspection, ProjectionPatchReadFault>
     ensures { result ≡ quick_end_answer left found patch_count operation_count absent }
 {
     if 0 < left {
-        return SetInspection::Refused(ProjectionPatchReadFault::Malformed);
+        return Err(ProjectionPatchReadFault::Malformed);
     }
     if found {
-        return SetInspection::Found;
+        return Ok(SetInspection::Found);
     }
-    SetInspection::Clean {
+    Ok(SetInspection::Clean {
         patch_count,
         operation_count,
         absent,
-    }
+    })
 }
 
 // Reads and checks count patches, the first of them at from, behind which the set ends. The ids have room for all patches that the bytes of
@@ -63,42 +61,44 @@ fn inspect_patches(
     bindings: &[u64],
     collections: &[u64],
     ids: &mut [u64],
-) -> SetInspection
+) -> Result<SetInspection, ProjectionPatchReadFault>
     requires { (from ≤ length set.now) × ((count ≤ set_patches) × RoomForIds (length set.now) (length ids.old)) }
     ensures { result ≡ inspection_answer nodes.now bindings.now collections.now
         (ended (many count (read_patch (edition_of edition)) (drop from set.now))) }
 {
     let mut highest = 0;
-    let mut previous = PreviousEnvelope::None;
+    let mut previous = None;
     let mut at = from;
-    let mut left = count;
-    let mut done: usize = 0;
     let mut operations: usize = 0;
     let mut absent: usize = 0;
     let mut found = false;
-    while 0 < left {
-        match quick_patches::check_patch(set, edition, at, nodes, bindings, collections) {
-            PatchCheckRead::Read(patch, end) => {
-                let own = patch.found;
-                let head = patch.head;
-                let envelope = head.envelope;
-                found = quick_patches::after_found(
-                    found, own, ids, done, highest, previous, envelope,
-                );
-                highest = quick_patches::larger(highest, envelope.patch_id.raw());
-                previous = PreviousEnvelope::Some(envelope);
-                at = end;
-                absent = absent + patch.absent;
-                operations = operations + head.operation_count;
-                left = left - 1;
-                done = done + 1;
-            }
-            PatchCheckRead::Refused(fault) => {
-                return SetInspection::Refused(fault);
-            }
-        }
+    for done in 0..count {
+        let (patch, end) = quick_patches::check_patch(
+            set,
+            edition,
+            at,
+            nodes,
+            bindings,
+            collections,
+        )?;
+        let head = patch.head;
+        let envelope = head.envelope;
+        found = quick_patches::after_found(
+            found,
+            patch.found,
+            ids,
+            done,
+            highest,
+            previous,
+            envelope,
+        );
+        highest = highest.max(envelope.patch_id.raw());
+        previous = Some(envelope);
+        at = end;
+        absent += patch.absent;
+        operations += head.operation_count;
     }
-    at_end(set.len() - at, found, done, operations, absent)
+    at_end(set.len() - at, found, count, operations, absent)
 }
 
 // Reads a whole set, with room lent for the ids of its patches.
@@ -109,19 +109,15 @@ fn inspect_with(
     bindings: &[u64],
     collections: &[u64],
     ids: &mut [u64],
-) -> SetInspection
+) -> Result<SetInspection, ProjectionPatchReadFault>
     requires { RoomForIds (length set.now) (length ids.old) }
     ensures { result ≡ inspection_answer nodes.now bindings.now collections.now (read_set (edition_of edition) set.now) }
 {
     if ProjectionPatchSet::BYTES < set.len() {
-        return SetInspection::Refused(ProjectionPatchReadFault::OverCapacity);
+        return Err(ProjectionPatchReadFault::OverCapacity);
     }
-    match patch_sets::read_heading(set, edition) {
-        Ok((count, at)) => {
-            inspect_patches(set, edition, at, count, nodes, bindings, collections, ids)
-        }
-        Err(fault) => SetInspection::Refused(fault),
-    }
+    let (count, at) = patch_sets::read_heading(set, edition)?;
+    inspect_patches(set, edition, at, count, nodes, bindings, collections, ids)
 }
 
 // Reads a whole set and says whether it has a finding; if not, how many patches and operations it has, and how many of the operations have
@@ -132,7 +128,7 @@ pub fn inspect_set(
     nodes: &[u64],
     bindings: &[u64],
     collections: &[u64],
-) -> SetInspection
+) -> Result<SetInspection, ProjectionPatchReadFault>
     ensures { result ≡ inspection_answer nodes.now bindings.now collections.now (read_set (edition_of edition) set.now) }
 {
     if set.len() <= SHORT_BYTES {

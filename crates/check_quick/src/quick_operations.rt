@@ -17,24 +17,10 @@ use projection_patch::read_operations;
 use projection_patch::read_values::ProjectionPatchReadFault;
 
 // Whether some operation was found fault with, and how many have an absent target.
-#[derive(Drop)]
+#[derive(Clone, Copy)]
 pub struct Tally {
     pub found: bool,
     pub absent: usize,
-}
-
-// Whether some operation was found fault with, and the position behind the last.
-#[derive(Drop)]
-pub enum OperationsFound {
-    Read(bool, usize),
-    Refused(ProjectionPatchReadFault),
-}
-
-// What the operations told, and the position behind the last.
-#[derive(Drop)]
-pub enum OperationsChecked {
-    Read(Tally, usize),
-    Refused(ProjectionPatchReadFault),
 }
 
 // Whether there was a finding before, or an operation with this target is one. The target is put behind the first used numbers, with its
@@ -61,7 +47,8 @@ fn operation_found(
     found
 }
 
-// Reads count operations of a set, the first of them at from, with room lent for their targets and marks. The targets stay in front.
+// Reads count operations of a set, the first of them at from, with room lent for their targets and marks. The targets stay in front. Answers
+// whether some operation was found fault with, and the position behind the last.
 fn check_with(
     set: &[u8],
     edition: ProjectionPatchEdition,
@@ -69,50 +56,37 @@ fn check_with(
     count: usize,
     targets: &mut [u64],
     marks: &mut [u8],
-) -> OperationsFound
+) -> Result<(bool, usize), ProjectionPatchReadFault>
     requires { (from ≤ length set.now) × ((3 * count ≤ length targets.old) × (length marks.old ≡ mark_places)) }
     ensures { (known : Target → Bool) → tallied_by known (take (3 * count) targets.new) result
         ≡ operations_answer (tally_of known) (length set.now) (many count (read_operation (edition_of edition)) (drop from set.now)) }
 {
     let mut at = from;
-    let mut left = count;
-    let mut used: usize = 0;
     let mut found = false;
-    while 0 < left {
-        match read_operations::operation_from(&set[at..], true, edition) {
-            Ok((operation, taken)) => {
-                at = at + taken;
-                left = left - 1;
-                let target = check_targets::mutation_target(operation);
-                let own = check_targets::before_self(operation);
-                found = operation_found(found, targets, marks, used, target, own);
-                used = used + MutationTarget::NUMBERS;
-            }
-            Err(fault) => {
-                return OperationsFound::Refused(fault);
-            }
-        }
+    for i in 0..count {
+        let (operation, taken) = read_operations::operation_from(&set[at..], true, edition)?;
+        at += taken;
+        let target = check_targets::mutation_target(operation);
+        let own = check_targets::before_self(operation);
+        let used = MutationTarget::NUMBERS * i;
+        found = operation_found(found, targets, marks, used, target, own);
     }
-    OperationsFound::Read(found, at)
+    Ok((found, at))
 }
 
 // What was found, with how many of the targets are absent.
 fn tallied(
-    run: OperationsFound,
+    run: Result<(bool, usize), ProjectionPatchReadFault>,
     targets: &[u64],
     nodes: &[u64],
     bindings: &[u64],
     collections: &[u64],
-) -> OperationsChecked
+) -> Result<(Tally, usize), ProjectionPatchReadFault>
     ensures { result ≡ tallied_by (anchored nodes.now bindings.now collections.now) targets.now run }
 {
-    match run {
-        OperationsFound::Read(found, end) => {
-            let absent = anchors::absent_among(targets, nodes, bindings, collections);
-            OperationsChecked::Read(Tally { found, absent }, end)
-        }
-        OperationsFound::Refused(fault) => OperationsChecked::Refused(fault),
-    }
+    let (found, end) = run?;
+    let absent = anchors::absent_among(targets, nodes, bindings, collections);
+    Ok((Tally { found, absent }, end))
 }
 
 // Reads the one operation of a patch, which repeats no target.
@@ -123,23 +97,20 @@ fn check_one(
     nodes: &[u64],
     bindings: &[u64],
     collections: &[u64],
-) -> OperationsChecked
+) -> Result<(Tally, usize), ProjectionPatchReadFault>
     requires { at ≤ length set.now }
     ensures { result ≡ operations_answer (tally_of (anchored nodes.now bindings.now collections.now))
         (length set.now) (many 1 (read_operation (edition_of edition)) (drop at set.now)) }
 {
-    match read_operations::operation_from(&set[at..], true, edition) {
-        Ok((operation, taken)) => {
-            let target = check_targets::mutation_target(operation);
-            let found = check_targets::before_self(operation);
-            let absent = anchors::one_if_absent(nodes, bindings, collections, target);
-            OperationsChecked::Read(Tally { found, absent }, at + taken)
-        }
-        Err(fault) => OperationsChecked::Refused(fault),
-    }
+    let (operation, taken) = read_operations::operation_from(&set[at..], true, edition)?;
+    let target = check_targets::mutation_target(operation);
+    let found = check_targets::before_self(operation);
+    let absent = anchors::one_if_absent(nodes, bindings, collections, target);
+    Ok((Tally { found, absent }, at + taken))
 }
 
-// Reads count operations of a set, the first of them at from. Most patches have few, and little is cleared for them.
+// What the operations told, and the position behind the last: reads count operations of a set, the first of them at from. Most patches have
+// few, and little is cleared for them.
 pub fn check_operations(
     set: &[u8],
     edition: ProjectionPatchEdition,
@@ -148,7 +119,7 @@ pub fn check_operations(
     nodes: &[u64],
     bindings: &[u64],
     collections: &[u64],
-) -> OperationsChecked
+) -> Result<(Tally, usize), ProjectionPatchReadFault>
     requires { (from ≤ length set.now) × (count ≤ patch_operations) }
     ensures { result ≡ operations_answer (tally_of (anchored nodes.now bindings.now collections.now))
         (length set.now) (many count (read_operation (edition_of edition)) (drop from set.now)) }

@@ -8,47 +8,29 @@ ghost use Rattle.check_quick.specs.Quick.{head_found, previous_found, after_foun
 ghost use Rattle.check_quick.specs.QuickAnswers.{previous_of, patch_answer};
 
 use crate::quick_operations;
-use crate::quick_operations::OperationsChecked;
 use check_findings::{envelope_checks, found, ids};
 use projection_patch::patch::{ProjectionPatch, ProjectionPatchEdition, ProjectionPatchEnvelope};
 use projection_patch::read_values::ProjectionPatchReadFault;
 
-#[derive(Drop)]
-pub enum PreviousEnvelope {
-    None,
-    Some(ProjectionPatchEnvelope),
-}
-
 // A patch's head, whether the patch has a finding, and how many of its operations have an absent target.
-#[derive(Drop)]
+#[derive(Clone, Copy)]
 pub struct PatchChecked {
     pub head: ProjectionPatch,
     pub found: bool,
     pub absent: usize,
 }
 
-// A patch that was checked, and the position behind it.
-#[derive(Drop)]
-pub enum PatchCheckRead {
-    Read(PatchChecked, usize),
-    Refused(ProjectionPatchReadFault),
-}
-
 // Whether a patch has a finding, by its head and by what its operations told.
 fn patch_found(head: ProjectionPatch, operations: bool) -> bool
     ensures { result ≡ (head_found (envelope_of head.envelope) head.operation_count || operations) }
 {
-    if operations {
+    if operations || head.operation_count == 0 {
         return true;
     }
-    if head.operation_count == 0 {
-        return true;
-    }
-    let envelope = head.envelope;
-    found::envelope_found(envelope_checks::envelope_findings(envelope))
+    found::envelope_found(envelope_checks::envelope_findings(head.envelope))
 }
 
-// Reads and checks the patch at a position.
+// Reads and checks the patch at a position, and answers it with the position behind it.
 pub fn check_patch(
     set: &[u8],
     edition: ProjectionPatchEdition,
@@ -56,55 +38,43 @@ pub fn check_patch(
     nodes: &[u64],
     bindings: &[u64],
     collections: &[u64],
-) -> PatchCheckRead
+) -> Result<(PatchChecked, usize), ProjectionPatchReadFault>
     requires { at ≤ length set.now }
     ensures { result ≡ patch_answer (anchored nodes.now bindings.now collections.now)
         (length set.now) (read_patch (edition_of edition) (drop at set.now)) }
 {
-    match patch_sets::read_patch_head(&set[at..]) {
-        Ok((head, taken)) => match quick_operations::check_operations(
-            set,
-            edition,
-            at + taken,
-            head.operation_count,
-            nodes,
-            bindings,
-            collections,
-        ) {
-            OperationsChecked::Read(tally, end) => PatchCheckRead::Read(
-                PatchChecked {
-                    head,
-                    found: patch_found(head, tally.found),
-                    absent: tally.absent,
-                },
-                end,
-            ),
-            OperationsChecked::Refused(fault) => PatchCheckRead::Refused(fault),
+    let (head, taken) = patch_sets::read_patch_head(&set[at..])?;
+    let (tally, end) = quick_operations::check_operations(
+        set,
+        edition,
+        at + taken,
+        head.operation_count,
+        nodes,
+        bindings,
+        collections,
+    )?;
+    let found = patch_found(head, tally.found);
+    Ok((
+        PatchChecked {
+            head,
+            found,
+            absent: tally.absent,
         },
-        Err(fault) => PatchCheckRead::Refused(fault),
-    }
+        end,
+    ))
 }
 
 // Whether an envelope has a finding after that of the patch just before it.
-fn previous_found(previous: PreviousEnvelope, envelope: ProjectionPatchEnvelope) -> bool
+fn previous_found(
+    previous: Option<ProjectionPatchEnvelope>,
+    envelope: ProjectionPatchEnvelope,
+) -> bool
     ensures { result ≡ previous_found (previous_of previous) (envelope_of envelope) }
 {
     match previous {
-        PreviousEnvelope::None => false,
-        PreviousEnvelope::Some(last) => {
-            found::pair_found(envelope_checks::pair_findings(last, envelope))
-        }
+        None => false,
+        Some(last) => { found::pair_found(envelope_checks::pair_findings(last, envelope)) }
     }
-}
-
-// The larger of two ids.
-pub fn larger(highest: u64, id: u64) -> u64
-    ensures { (highest ≤ result) × (id ≤ result) }
-{
-    if id < highest {
-        return highest;
-    }
-    id
 }
 
 // Whether the id is among the first used numbers, none of which is above the highest; it is put behind them. Ids mostly ascend, and then
@@ -129,7 +99,7 @@ pub fn after_found(
     ids: &mut [u64],
     used: usize,
     highest: u64,
-    previous: PreviousEnvelope,
+    previous: Option<ProjectionPatchEnvelope>,
     envelope: ProjectionPatchEnvelope,
 ) -> bool
     requires { (used < length ids.old) × AtMost highest (take used ids.old) }
@@ -137,14 +107,5 @@ pub fn after_found(
     ensures kept { ids.new ≡ set ids.old used (envelope_of envelope).id }
 {
     let seen = id_repeats(ids, used, highest, envelope.patch_id.raw());
-    if earlier {
-        return true;
-    }
-    if own {
-        return true;
-    }
-    if seen {
-        return true;
-    }
-    previous_found(previous, envelope)
+    earlier || own || seen || previous_found(previous, envelope)
 }

@@ -9,48 +9,46 @@ use crate::inspection::SetInspection;
 use projection_patch::patch::ProjectionPatchEdition;
 use projection_patch::read_values::ProjectionPatchReadFault;
 
-// Clean: the set has no findings.
-#[derive(Drop)]
+// What a readable set is: without findings, with so many patches and operations, or with some.
+#[derive(Clone, Copy)]
 pub enum QuickCheck {
     Clean {
         patch_count: usize,
         operation_count: usize,
     },
     Found,
-    Refused(ProjectionPatchReadFault),
 }
 
 impl QuickCheck {
     // The number of a refusal; 0 says that there is none.
-    pub fn number(self) -> u64
-        ensures { result ≡ quick_number self }
+    pub fn number(answer: Result<QuickCheck, ProjectionPatchReadFault>) -> u64
+        ensures { result ≡ quick_number answer }
     {
-        match self {
-            QuickCheck::Clean {
-                patch_count: _,
-                operation_count: _,
-            } => 0,
-            QuickCheck::Found => 11,
-            QuickCheck::Refused(fault) => fault.number(),
+        match answer {
+            Ok(QuickCheck::Clean { .. }) => 0,
+            Ok(QuickCheck::Found) => 11,
+            Err(fault) => fault.number(),
         }
     }
 }
 
 // Reads a whole set and says whether it has a finding; if not, how many patches and operations it has.
-pub fn quick_check(set: &[u8], edition: ProjectionPatchEdition) -> QuickCheck
+pub fn quick_check(
+    set: &[u8],
+    edition: ProjectionPatchEdition,
+) -> Result<QuickCheck, ProjectionPatchReadFault>
     ensures { result ≡ quick_answer (read_set (edition_of edition) set.now) }
 {
-    let none = [0u64; 0];
-    match inspection::inspect_set(set, edition, &none, &none, &none) {
+    let inspected = inspection::inspect_set(set, edition, &[], &[], &[])?;
+    match inspected {
         SetInspection::Clean {
             patch_count,
             operation_count,
-            absent: _,
-        } => QuickCheck::Clean {
+            ..
+        } => Ok(QuickCheck::Clean {
             patch_count,
             operation_count,
-        },
-        SetInspection::Found => QuickCheck::Found,
-        SetInspection::Refused(fault) => QuickCheck::Refused(fault),
+        }),
+        SetInspection::Found => Ok(QuickCheck::Found),
     }
 }

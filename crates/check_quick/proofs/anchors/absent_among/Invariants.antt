@@ -9,9 +9,6 @@ use Rattle.check_quick.specs.AnchorsLaws.{one_at_most, absent_turn, absent_end, 
 use borrow.Author.Rules.{rules}
 use Rattle.check_quick.proofs.anchors.absent_among.Given as goal
 
-abbrev pub invariant-loop-at : goal.invariant-loop-at
-invariant-loop-at l =
-    (l.at ≤ length l.targets) × ((l.absent ≤ l.at) × (l.absent + absent_among (anchored l.nodes l.bindings l.collections) (drop l.at l.targets) ≡ absent_among (anchored l.nodes l.bindings l.collections) l.targets))
-
-abbrev pub decreases-loop-at : goal.decreases-loop-at
-decreases-loop-at l = length l.targets - l.at
+abbrev pub invariant-loop-i : goal.invariant-loop-i
+invariant-loop-i l =
+    (l.absent ≤ l.i) × (l.absent + absent_among (anchored l.nodes l.bindings l.collections) (drop (3 * l.i) l.targets) ≡ absent_among (anchored l.nodes l.bindings l.collections) l.targets)

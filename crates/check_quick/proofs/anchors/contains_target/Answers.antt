@@ -1,18 +1,18 @@
 -- `contains_target` meets its contract: the anchors of the target's kind are asked.
-use mathlib.Core.Path.{◌∙◌, sym}
-use borrow.Author.Rules.{rules}
-use borrow.Author.Tests.{eq-eqb, ne_eqb}
+use Rattle.std.proofs.Common.{◌≡◌, ◌∙◌, arith}
+use borrow.Author.Tests.{ne_eqb}
 use Rattle.check_quick.specs.Anchors.{anchored}
 use Rattle.check_quick.proofs.anchors.contains_target.Goals as goal
 
-pub returns-then-target-eq1 : goal.returns-then-target-eq1
+pub returns-in-1 : goal.returns-in-1
 unfolding anchored
-returns-then-target-eq1 c = c.contains_binding.ensures ∙ rw (eq-eqb _ _ c.if-target-eq1.true)
+returns-in-1 c = c.contains_binding.ensures ∙ rw c.in-1.is
 
-pub returns-then-target-eq2 : goal.returns-then-target-eq2
+pub returns-in-2 : goal.returns-in-2
 unfolding anchored
-returns-then-target-eq2 c = c.contains_id.ensures ∙ rw (ne_eqb _ _ c.if-target-eq1.false, eq-eqb _ _ c.if-target-eq2.true)
+returns-in-2 c = c.contains_id.ensures ∙ rw c.in-2.is
 
-pub returns : goal.returns
+pub returns-in_default : goal.returns-in_default
 unfolding anchored
-returns c = c.contains_id-2.ensures ∙ rw (ne_eqb _ _ c.if-target-eq1.false, ne_eqb _ _ c.if-target-eq2.false)
+returns-in_default c =
+    c.contains_id-in_default.ensures ∙ rw (ne_eqb c.args.target.kind 1 (λ (e : c.args.target.kind ≡ 1). omega arith), ne_eqb c.args.target.kind 2 (λ (e : c.args.target.kind ≡ 2). omega arith))

@@ -26,11 +26,8 @@ use mir.Syntax.{w64}
 use borrow.Author.Rules.{rules}
 use Rattle.check_quick.proofs.inspection.inspect_patches.Given as goal
 
-abbrev pub invariant-loop-left : goal.invariant-loop-left
-invariant-loop-left l =
-    (l.at ≤ length l.set) × ((l.done + l.left ≡ l.count) × ((l.operations + l.left * patch_operations ≤ l.count * patch_operations) × ((l.absent ≤ l.operations)
+abbrev pub invariant-loop-done : goal.invariant-loop-done
+invariant-loop-done l =
+    (l.at ≤ length l.set) × ((l.operations + (l.count - l.done) * patch_operations ≤ l.count * patch_operations) × ((l.absent ≤ l.operations)
     × (((length l.ids ≡ length l.initial.ids) × (l.done * least_patch ≤ l.at)) × (AtMost l.highest (take l.done l.ids)
-    × (patches_left (edition_of l.edition) (anchored l.nodes l.bindings l.collections) l.set l.at l.left (passed_patches l.done l.operations l.absent l.found) (take l.done l.ids) (previous_of l.previous) ≡ inspection_answer l.nodes l.bindings l.collections (ended (many l.count (read_patch (edition_of l.edition)) (drop l.from l.set)))))))))
-
-abbrev pub decreases-loop-left : goal.decreases-loop-left
-decreases-loop-left l = l.left
+    × (patches_left (edition_of l.edition) (anchored l.nodes l.bindings l.collections) l.set l.at (l.count - l.done) (passed_patches l.done l.operations l.absent l.found) (take l.done l.ids) (previous_of l.previous) ≡ inspection_answer l.nodes l.bindings l.collections (ended (many l.count (read_patch (edition_of l.edition)) (drop l.from l.set))))))))

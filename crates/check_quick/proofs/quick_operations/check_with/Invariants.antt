@@ -1,4 +1,4 @@
-use Prim.Native.Nat.{ℕ, ◌+◌, ◌*◌, ◌≤◌}
+use Prim.Native.Nat.{ℕ, ◌-◌, ◌*◌, ◌≤◌}
 use mathlib.Core.Path.{◌≡◌, refl, sym, ap, ◌∙◌}
 use mathlib.Core.Bool.{Bool, false, ◌||◌}
 use mathlib.Core.List.{List, []}
@@ -20,10 +20,7 @@ use mir.Syntax.{w64}
 use borrow.Author.Rules.{rules}
 use Rattle.check_quick.proofs.quick_operations.check_with.Given as goal
 
-abbrev pub invariant-loop-left : goal.invariant-loop-left
-invariant-loop-left l =
-    (l.at ≤ length l.set) × ((l.used + 3 * l.left ≡ 3 * l.count) × ((length l.targets ≡ length l.initial.targets) × (Marked l.marks (take l.used l.targets)
-    × ((known : MutationTarget → Bool) → quick_left_answer (edition_of l.edition) known l.set l.at l.left l.found (take l.used l.targets) ≡ quick_left_answer (edition_of l.edition) known l.set l.from l.count false []))))
-
-abbrev pub decreases-loop-left : goal.decreases-loop-left
-decreases-loop-left l = l.left
+abbrev pub invariant-loop-i : goal.invariant-loop-i
+invariant-loop-i l =
+    (l.at ≤ length l.set) × ((length l.targets ≡ length l.initial.targets) × (Marked l.marks (take (3 * l.i) l.targets)
+    × ((known : MutationTarget → Bool) → quick_left_answer (edition_of l.edition) known l.set l.at (l.count - l.i) l.found (take (3 * l.i) l.targets) ≡ quick_left_answer (edition_of l.edition) known l.set l.from l.count false [])))

@@ -1,26 +1,25 @@
 -- `check_quick::quick_patches::after_found` meets its contract: the tests in their order.
-use mathlib.Core.Path.{sym, ap, ◌∙◌}
-use Prim.Native.Nat.{ℕ}
-use lib.ListN.{take, set}
+use Rattle.std.proofs.Common.{sym, ap, ◌∙◌, arith, ℕ, take}
+use Rattle.std.proofs.lemmas.Bool.Decides.{nat_tests}
 use Rattle.check_findings.specs.Ids.{id_seen}
 use Rattle.check_quick.specs.Quick.{after_found}
-use borrow.Author.Rules.{rules}
 use Rattle.check_quick.proofs.quick_patches.after_found.Goals as goal
+use Rattle.check_quick.proofs.quick_patches.after_found.Goals.{then-earlier, else-earlier, then-own, else-own}
 
-pub returns-then-earlier : goal.returns-then-earlier
-returns-then-earlier c =
-    record { found = rw c.if-earlier.true; kept = c.id_repeats-seen.ensures.kept ∙ ap (λ (n : ℕ). set c.args.ids.now c.args.used n) c.raw.ensures }
-
-pub returns-then-own : goal.returns-then-own
-returns-then-own c =
-    record { found = rw (c.if-earlier.false, c.if-own.true); kept = c.id_repeats-seen.ensures.kept ∙ ap (λ (n : ℕ). set c.args.ids.now c.args.used n) c.raw.ensures }
-
-pub returns-then-seen : goal.returns-then-seen
+pub returns-then-seen-clause-found : goal.returns-then-seen-clause-found
 unfolding after_found
-returns-then-seen c =
-    record { found = rw (c.if-earlier.false, c.if-own.false, sym (c.id_repeats-seen.ensures.seen ∙ ap (λ (n : ℕ). id_seen n (take c.args.used c.args.ids.now)) c.raw.ensures) ∙ c.if-seen.true); kept = c.id_repeats-seen.ensures.kept ∙ ap (λ (n : ℕ). set c.args.ids.now c.args.used n) c.raw.ensures }
+returns-then-seen-clause-found c =
+    let seen = c.id_repeats-seen.ensures.seen ∙ ap (λ (n : ℕ). id_seen n (take c.args.used c.args.ids.now)) c.raw.ensures in
+    elim c.if-own.branch [
+      then-own w ↦ elim c.if-earlier.branch [ then-earlier v ↦ grind (arith, nat_tests, seen) | else-earlier v ↦ grind (arith, nat_tests, seen) ]
+      | else-own w ↦ elim c.if-earlier.branch [ then-earlier v ↦ grind (arith, nat_tests, seen) | else-earlier v ↦ grind (arith, nat_tests, seen) ]
+    ]
 
-pub returns : goal.returns
+pub returns-else-seen-clause-found : goal.returns-else-seen-clause-found
 unfolding after_found
-returns c =
-    record { found = c.previous_found.ensures ∙ rw (c.if-earlier.false, c.if-own.false, sym (c.id_repeats-seen.ensures.seen ∙ ap (λ (n : ℕ). id_seen n (take c.args.used c.args.ids.now)) c.raw.ensures) ∙ c.if-seen.false); kept = c.id_repeats-seen.ensures.kept ∙ ap (λ (n : ℕ). set c.args.ids.now c.args.used n) c.raw.ensures }
+returns-else-seen-clause-found c =
+    let seen = c.id_repeats-seen.ensures.seen ∙ ap (λ (n : ℕ). id_seen n (take c.args.used c.args.ids.now)) c.raw.ensures in
+    elim c.if-own.branch [
+      then-own w ↦ elim c.if-earlier.branch [ then-earlier v ↦ grind (arith, nat_tests, seen) | else-earlier v ↦ grind (arith, nat_tests, seen) ]
+      | else-own w ↦ elim c.if-earlier.branch [ then-earlier v ↦ grind (arith, nat_tests, seen) | else-earlier v ↦ grind (arith, nat_tests, seen) ]
+    ]

@@ -6,16 +6,15 @@ use Rattle.projection_patch.specs.Meaning.{envelope_of}
 use Rattle.check_findings.specs.Found.{is_found}
 use Rattle.check_quick.specs.Quick.{head_found}
 use Rattle.check_quick.specs.QuickLaws.{or_false}
-use borrow.Author.Rules.{rules}
 use Rattle.check_quick.proofs.quick_patches.patch_found.Goals as goal
+use Rattle.check_quick.proofs.quick_patches.patch_found.Goals.{then-operations-via-then-operations, then-operations-via-else-operations+then-head-eq0}
 
 pub returns-then-operations : goal.returns-then-operations
-returns-then-operations c =
-    sym (or_true (head_found (envelope_of c.args.head.envelope) c.args.head.operation_count) _ c.if-operations.true)
-
-pub returns-then-head-eq0 : goal.returns-then-head-eq0
 unfolding head_found
-returns-then-head-eq0 c = rw (eq-eqb _ _ c.if-head-eq0.true)
+returns-then-operations c = elim c.then-operations.branch [
+  then-operations-via-then-operations w ↦ sym (or_true (head_found (envelope_of c.args.head.envelope) c.args.head.operation_count) _ w.if-operations.true)
+  | then-operations-via-else-operations+then-head-eq0 w ↦ rw (eq-eqb _ _ w.if-head-eq0.true)
+]
 
 pub returns : goal.returns
 unfolding head_found
