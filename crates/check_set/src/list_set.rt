@@ -11,7 +11,6 @@ ghost use Rattle.check_set.specs.Listed.{previous_listed, after_listed, Findings
 
 use crate::list_patch;
 use check_findings::{envelope_checks, ids, insert_findings};
-use check_quick::quick_patches::PreviousEnvelope;
 use patch_walk::{SetCursor, SetStep};
 use projection_patch::patch::{
     ProjectionPatchEdition, ProjectionPatchEnvelope, ProjectionPatchSet,
@@ -36,15 +35,15 @@ impl FindingsListed {
 fn insert_previous(
     records: &mut [u64],
     kept: usize,
-    previous: PreviousEnvelope,
+    previous: Option<ProjectionPatchEnvelope>,
     envelope: ProjectionPatchEnvelope,
 ) -> usize
     ensures counted { result ≡ (inserted_all (previous_listed (previous_of previous) (envelope_of envelope)) kept records.old).0 }
     ensures numbers { records.new ≡ (inserted_all (previous_listed (previous_of previous) (envelope_of envelope)) kept records.old).1 }
 {
     match previous {
-        PreviousEnvelope::None => kept,
-        PreviousEnvelope::Some(last) => {
+        None => kept,
+        Some(last) => {
             let findings = envelope_checks::pair_findings(last, envelope);
             insert_findings::insert_pair_findings(records, kept, findings)
         }
@@ -57,7 +56,7 @@ fn insert_after(
     kept: usize,
     ids: &mut [u64],
     used: usize,
-    previous: PreviousEnvelope,
+    previous: Option<ProjectionPatchEnvelope>,
     envelope: ProjectionPatchEnvelope,
 ) -> usize
     requires { used < length ids.old }
@@ -84,7 +83,7 @@ pub fn list_patches(
     ensures { (ps : List Patch) → AtSteps (edition_of edition) set.now start [] ps → FindingsListedAs (findings ps) result records.new }
 {
     let mut ids = [0u64; ProjectionPatchSet::PATCHES];
-    let mut previous = PreviousEnvelope::None;
+    let mut previous = None;
     let mut cursor = start;
     let mut done: usize = 0;
     let mut kept: usize = 0;
@@ -99,7 +98,7 @@ pub fn list_patches(
         }
         let envelope = head.envelope;
         kept = insert_after(records, kept, &mut ids, done, previous, envelope);
-        previous = PreviousEnvelope::Some(envelope);
+        previous = Some(envelope);
         cursor = patch.next;
         done = done + 1;
     }

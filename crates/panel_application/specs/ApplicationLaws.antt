@@ -1,5 +1,6 @@
 -- Laws of what a set does: the refusals' numbers, and what the quick check decides.
 use Rattle.std.specs.Prelude.{ℕ, Bool, List, [], ◌∷◌, eqb, length, if◌then◌else◌}
+use Rattle.std.specs.Prelude as code
 use Rattle.std.proofs.Math.Path.{◌≡◌, refl, ap, subst}
 use Rattle.std.proofs.Common.{sym, ◌∙◌, arith}
 use Rattle.std.proofs.Math.Bool.{true, false, not}
@@ -55,46 +56,46 @@ record CleanReading (p : Projection) (r : SetReading) : Type 0 where
   pub outcome : apply_reading p r ≡ set_outcome (apply_steps p (replay_steps ps))
 
 module _ (p : Projection) where
-  clean_reading : (r : SetReading) (n m : ℕ) → quick.Clean n m ≡ quick_answer r → CleanReading p r
+  clean_reading : (r : SetReading) (n m : ℕ) → code.Ok (quick.Clean n m) ≡ quick_answer r → CleanReading p r
   unfolding apply_reading is_found
   clean_reading (fault f) n m e = absurd (let z : ◌≡◌ {A = ℕ} 0 1 = cc in omega arith)
   clean_reading (patches ps) n m e = go (is_empty (findings ps).found) refl e
     where
-      go : (t : Bool) → is_empty (findings ps).found ≡ t → quick.Clean n m ≡ (if not t then quick.Found else quick.Clean (length ps) (operation_count_lem ps)) → CleanReading p (patches ps)
+      go : (t : Bool) → is_empty (findings ps).found ≡ t → code.Ok (quick.Clean n m) ≡ code.Ok {E = ProjectionPatchReadFault} (if not t then quick.Found else quick.Clean (length ps) (operation_count_lem ps)) → CleanReading p (patches ps)
       go true is e = record { ps = ps; readable = refl; outcome = rw is }
       go false is e = absurd (let z : ◌≡◌ {A = ℕ} 0 1 = cc in omega arith)
 
-  found_reading : (r : SetReading) → quick.Found ≡ quick_answer r → apply_reading p r ≡ refused 11
+  found_reading : (r : SetReading) → code.Ok quick.Found ≡ quick_answer r → apply_reading p r ≡ refused 11
   unfolding apply_reading is_found
   found_reading (fault f) e = absurd (let z : ◌≡◌ {A = ℕ} 0 1 = cc in omega arith)
   found_reading (patches ps) e = go (is_empty (findings ps).found) refl e
     where
-      go : (t : Bool) → is_empty (findings ps).found ≡ t → quick.Found ≡ (if not t then quick.Found else quick.Clean (length ps) (operation_count_lem ps)) → apply_reading p (patches ps) ≡ refused 11
+      go : (t : Bool) → is_empty (findings ps).found ≡ t → code.Ok quick.Found ≡ code.Ok {E = ProjectionPatchReadFault} (if not t then quick.Found else quick.Clean (length ps) (operation_count_lem ps)) → apply_reading p (patches ps) ≡ refused 11
       go true is e = absurd (let z : ◌≡◌ {A = ℕ} 0 1 = cc in omega arith)
       go false is e = rw is
 
-  refused_reading : (r : SetReading) (f : ProjectionPatchReadFault) → quick.Refused f ≡ quick_answer r → apply_reading p r ≡ refused (fault_number (reading.fault_of f))
+  refused_reading : (r : SetReading) (f : ProjectionPatchReadFault) → code.Err f ≡ quick_answer r → apply_reading p r ≡ refused (fault_number (reading.fault_of f))
   unfolding apply_reading is_found
   refused_reading (fault g) f e =
       let same : reading.fault_to g ≡ f = cc in
       ap (λ x. refused (fault_number x)) (sym (fault_back g) ∙ ap reading.fault_of same)
   refused_reading (patches ps) f e = go (is_empty (findings ps).found) e
     where
-      go : (t : Bool) → quick.Refused f ≡ (if not t then quick.Found else quick.Clean (length ps) (operation_count_lem ps)) → apply_reading p (patches ps) ≡ refused (fault_number (reading.fault_of f))
+      go : (t : Bool) → code.Err f ≡ code.Ok (if not t then quick.Found else quick.Clean (length ps) (operation_count_lem ps)) → apply_reading p (patches ps) ≡ refused (fault_number (reading.fault_of f))
       go true e = absurd (let z : ◌≡◌ {A = ℕ} 0 1 = cc in omega arith)
       go false e = absurd (let z : ◌≡◌ {A = ℕ} 0 1 = cc in omega arith)
 
-  module _ (ed : Edition) (set : List ℕ) (c : QuickCheck) (answer_is : c ≡ quick_answer (read_set ed set)) (next : LocalProjectionState) where
-    pub clean_became : (n m : ℕ) → c ≡ quick.Clean n m → (o : ProjectionOutcome) → ((ps : List Patch) → read_set ed set ≡ patches ps → StepsBecame next o (apply_steps p (replay_steps ps))) → SetBecame next o (apply_set ed p set)
+  module _ (ed : Edition) (set : List ℕ) (c : code.Result QuickCheck ProjectionPatchReadFault) (answer_is : c ≡ quick_answer (read_set ed set)) (next : LocalProjectionState) where
+    pub clean_became : (n m : ℕ) → c ≡ code.Ok (quick.Clean n m) → (o : ProjectionOutcome) → ((ps : List Patch) → read_set ed set ≡ patches ps → StepsBecame next o (apply_steps p (replay_steps ps))) → SetBecame next o (apply_set ed p set)
     unfolding apply_set
     clean_became n m e o told =
         let k = clean_reading (read_set ed set) n m (sym e ∙ answer_is) in
         subst (SetBecame next o) (sym k.outcome) (steps_set next o (apply_steps p (replay_steps k.ps)) (told k.ps k.readable))
 
-    pub found_became : c ≡ quick.Found → SetBecame next Findings (apply_set ed p set)
+    pub found_became : c ≡ code.Ok quick.Found → SetBecame next Findings (apply_set ed p set)
     unfolding apply_set outcome_number
     found_became e = subst (SetBecame next Findings) (sym (found_reading (read_set ed set) (sym e ∙ answer_is))) refl
 
-    pub refused_became : (f : ProjectionPatchReadFault) → c ≡ quick.Refused f → SetBecame next (Unreadable f) (apply_set ed p set)
+    pub refused_became : (f : ProjectionPatchReadFault) → c ≡ code.Err f → SetBecame next (Unreadable f) (apply_set ed p set)
     unfolding apply_set outcome_number
     refused_became f e = subst (SetBecame next (Unreadable f)) (sym (refused_reading (read_set ed set) f (sym e ∙ answer_is))) refl

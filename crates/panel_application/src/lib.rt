@@ -125,15 +125,12 @@ pub fn apply_projection_patch_set(
     ensures kept { StateKeptUnlessApplied state result.state result.outcome }
 {
     match quick_set::quick_check(set, edition) {
-        QuickCheck::Clean {
-            patch_count: _,
-            operation_count: _,
-        } => apply_readable(state, set, edition),
-        QuickCheck::Found => ProjectionApplication {
+        Ok(QuickCheck::Clean { .. }) => apply_readable(state, set, edition),
+        Ok(QuickCheck::Found) => ProjectionApplication {
             state,
             outcome: ProjectionOutcome::Findings,
         },
-        QuickCheck::Refused(fault) => ProjectionApplication {
+        Err(fault) => ProjectionApplication {
             state,
             outcome: ProjectionOutcome::Unreadable(fault),
         },

@@ -192,17 +192,17 @@ module _ (ed : Edition) (id : ℕ) (l : Limits) (life : Lifecycle) (cursor : Cur
 
 module _ (ed : Edition) (set nodes bindings collections : List ℕ) where
   -- what the pass over a set tells
-  data Inspected : SetInspection → Type 0 where
-    unread : (f : ProjectionPatchReadFault) (u : Unread) → locate ed set ≡ some u → Inspected (inspection.Refused f)
-    some_found : (ps : List Patch) → read_set ed set ≡ patches ps → locate ed set ≡ none → (f : Finding) (fs : List Finding) → (findings ps).found ≡ f ∷ fs → Inspected inspection.Found
-    clean : (ps : List Patch) → read_set ed set ≡ patches ps → locate ed set ≡ none → (findings ps).found ≡ [] → Inspected (inspection.Clean (length ps) (operation_count_lem ps) (absent_of (anchored nodes bindings collections) (operations_of ps)))
+  data Inspected : Result SetInspection ProjectionPatchReadFault → Type 0 where
+    unread : (f : ProjectionPatchReadFault) (u : Unread) → locate ed set ≡ some u → Inspected (Err f)
+    some_found : (ps : List Patch) → read_set ed set ≡ patches ps → locate ed set ≡ none → (f : Finding) (fs : List Finding) → (findings ps).found ≡ f ∷ fs → Inspected (Ok inspection.Found)
+    clean : (ps : List Patch) → read_set ed set ≡ patches ps → locate ed set ≡ none → (findings ps).found ≡ [] → Inspected (Ok (inspection.Clean (length ps) (operation_count_lem ps) (absent_of (anchored nodes bindings collections) (operations_of ps))))
 
   inspected : Inspected (inspection_answer nodes bindings collections (read_set ed set))
   unfolding inspected_by is_found
   inspected = go (locate ed set) (read_set ed set) refl refl (locate_agrees ed set)
     where
       by_found : (ps : List Patch) → read_set ed set ≡ patches ps → locate ed set ≡ none → (fs : List Finding) → (findings ps).found ≡ fs
-          → Inspected (if not (is_empty fs) then inspection.Found else inspection.Clean (length ps) (operation_count_lem ps) (absent_of (anchored nodes bindings collections) (operations_of ps)))
+          → Inspected (Ok (if not (is_empty fs) then inspection.Found else inspection.Clean (length ps) (operation_count_lem ps) (absent_of (anchored nodes bindings collections) (operations_of ps))))
       by_found ps r l [] e = clean ps r l e
       by_found ps r l (f ∷ fs) e = some_found ps r l f fs e
 
@@ -212,36 +212,36 @@ module _ (ed : Edition) (set nodes bindings collections : List ℕ) where
       go none (patches ps) l r (reads qs) = by_found ps r l (findings ps).found refl
       go (some u) (fault f) l r (stops v g is) = unread (fault_to f) u l
 
-  module _ (c : Catalogue) (lent : Lent c nodes bindings collections) (l : Limits) (cursor : Cursor) (e : BatchEnvelope) (declared : ℕ) {i : SetInspection} (told : i ≡ inspection_answer nodes bindings collections (read_set ed set)) where
+  module _ (c : Catalogue) (lent : Lent c nodes bindings collections) (l : Limits) (cursor : Cursor) (e : BatchEnvelope) (declared : ℕ) {i : Result SetInspection ProjectionPatchReadFault} (told : i ≡ inspection_answer nodes bindings collections (read_set ed set)) where
     abbrev Whole : Result (Unit {0}) BatchReason
     Whole = step_to (set_by ed c l cursor e declared set)
 
     here : Inspected i
     here = subst Inspected (sym told) inspected
 
-    pub set_unread : {f : ProjectionPatchReadFault} → i ≡ inspection.Refused f → found_to (explain_check ed set) ≡ Whole
+    pub set_unread : {f : ProjectionPatchReadFault} → i ≡ Err f → found_to (explain_check ed set) ≡ Whole
     unfolding set_by explain_check patches_readable reason_of
     set_unread {f} is = go i here is
       where
-        go : (j : SetInspection) → Inspected j → j ≡ inspection.Refused f → found_to (explain_check ed set) ≡ Whole
+        go : (j : Result SetInspection ProjectionPatchReadFault) → Inspected j → j ≡ Err f → found_to (explain_check ed set) ≡ Whole
         go j (unread g u l) is = rw l
         go j (some_found ps r l f fs e) is = absurd (let z : ◌≡◌ {A = ℕ} 0 1 = cc in omega arith)
         go j (clean ps r l e) is = absurd (let z : ◌≡◌ {A = ℕ} 0 1 = cc in omega arith)
 
-    pub set_found : i ≡ inspection.Found → (r : Result (Unit {0}) BatchReason) → ((ps : List Patch) → read_set ed set ≡ patches ps → r ≡ step_to (no_findings (findings ps).place (findings ps).found)) → r ≡ Whole
+    pub set_found : i ≡ Ok inspection.Found → (r : Result (Unit {0}) BatchReason) → ((ps : List Patch) → read_set ed set ≡ patches ps → r ≡ step_to (no_findings (findings ps).place (findings ps).found)) → r ≡ Whole
     unfolding set_by patches_readable patches_read no_findings
     set_found is r by = go i here is
       where
-        go : (j : SetInspection) → Inspected j → j ≡ inspection.Found → r ≡ Whole
+        go : (j : Result SetInspection ProjectionPatchReadFault) → Inspected j → j ≡ Ok inspection.Found → r ≡ Whole
         go j (unread f u l) is = absurd (let z : ◌≡◌ {A = ℕ} 0 1 = cc in omega arith)
         go j (some_found ps s l f fs e) is = by ps s ∙ rw (l, s, e)
         go j (clean ps s l e) is = absurd (let z : ◌≡◌ {A = ℕ} 0 1 = cc in omega arith)
 
-    pub set_clean : {n k absent : ℕ} → i ≡ inspection.Clean n k absent → (r : Result (Unit {0}) BatchReason) → ((ps : List Patch) → read_set ed set ≡ patches ps → r ≡ step_to (clean_by c l cursor e declared n k absent ps)) → r ≡ Whole
+    pub set_clean : {n k absent : ℕ} → i ≡ Ok (inspection.Clean n k absent) → (r : Result (Unit {0}) BatchReason) → ((ps : List Patch) → read_set ed set ≡ patches ps → r ≡ step_to (clean_by c l cursor e declared n k absent ps)) → r ≡ Whole
     unfolding set_by patches_readable patches_read no_findings
     set_clean {n} {k} {absent} is r by = go i here is
       where
-        go : (j : SetInspection) → Inspected j → j ≡ inspection.Clean n k absent → r ≡ Whole
+        go : (j : Result SetInspection ProjectionPatchReadFault) → Inspected j → j ≡ Ok (inspection.Clean n k absent) → r ≡ Whole
         go j (unread f u l) is = absurd (let z : ◌≡◌ {A = ℕ} 0 1 = cc in omega arith)
         go j (some_found ps s l f fs e) is = absurd (let z : ◌≡◌ {A = ℕ} 0 1 = cc in omega arith)
         go j (clean ps s located None-found) is =

@@ -84,13 +84,13 @@ fn explain_set(
         → result ≡ step_to (set_by (edition_of edition) c (limits_of limits) (cursor_of cursor) (batch_envelope_of envelope) declared set.now) }
 {
     match inspection::inspect_set(set, edition, nodes, bindings, collections) {
-        SetInspection::Refused(_) => reading::explain_check(set, edition),
-        SetInspection::Found => reading::explain_findings(set, edition),
-        SetInspection::Clean {
+        Err(_) => reading::explain_check(set, edition),
+        Ok(SetInspection::Found) => reading::explain_findings(set, edition),
+        Ok(SetInspection::Clean {
             patch_count,
             operation_count,
             absent,
-        } => explain_clean(
+        }) => explain_clean(
             limits,
             cursor,
             nodes,

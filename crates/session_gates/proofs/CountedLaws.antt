@@ -7,6 +7,8 @@ use Rattle.spec_session.specs.Session.{Lifecycle, Cursor, Limits}
 use Rattle.spec_session.specs.Diagnostics.{SessionRefusal, session_mismatch, session_closed, limit_exceeded, counts_differ, cursor_mismatch}
 use Rattle.spec_session.specs.Batch.{BatchEnvelope, Check, pass, refuse, ◌>>◌, require, known_targets}
 use Rattle.projection_patch.specs.declared.read_values.ProjectionPatchReadFault.TheVariants.{Malformed, OverCapacity}
+use Rattle.std.specs.Prelude as code
+use Rattle.projection_patch.specs.declared.read_values.ProjectionPatchReadFault.{ProjectionPatchReadFault}
 use Rattle.check_quick.specs.declared.inspection.SetInspection.{SetInspection}
 use Rattle.check_quick.specs.declared.inspection.SetInspection.TheVariants as inspection
 use Rattle.session_gates.specs.Gates.{preflight_by, counts_by, replay_by, targets_by, inspection_by, count_fits, check_counted}
@@ -39,12 +41,12 @@ clean_counted : (l : Limits) (c : Cursor) (e : BatchEnvelope) (declared n k abse
 unfolding targets_by replay_by count_fits
 clean_counted l c e declared n k absent = then_counted _ _ (counts_counted l e declared n k) (then_counted _ _ (known_counted absent) (require_counted _ cursor_mismatch refl))
 
-inspection_counted : (l : Limits) (c : Cursor) (e : BatchEnvelope) (declared : ℕ) (i : SetInspection) → check_counted (inspection_by l c e declared i) ≡ true
+inspection_counted : (l : Limits) (c : Cursor) (e : BatchEnvelope) (declared : ℕ) (i : code.Result SetInspection ProjectionPatchReadFault) → check_counted (inspection_by l c e declared i) ≡ true
 unfolding inspection_by check_counted count_fits
-inspection_counted l c e declared (inspection.Refused Malformed) = refl
-inspection_counted l c e declared (inspection.Refused OverCapacity) = refl
-inspection_counted l c e declared inspection.Found = refl
-inspection_counted l c e declared (inspection.Clean n k absent) = clean_counted l c e declared n k absent
+inspection_counted l c e declared (code.Err Malformed) = refl
+inspection_counted l c e declared (code.Err OverCapacity) = refl
+inspection_counted l c e declared (code.Ok inspection.Found) = refl
+inspection_counted l c e declared (code.Ok (inspection.Clean n k absent)) = clean_counted l c e declared n k absent
 
-pub steps_counted : (id : ℕ) (l : Limits) (life : Lifecycle) (c : Cursor) (e : BatchEnvelope) (declared : ℕ) (i : SetInspection) → check_counted (preflight_by id l life e >> inspection_by l c e declared i) ≡ true
+pub steps_counted : (id : ℕ) (l : Limits) (life : Lifecycle) (c : Cursor) (e : BatchEnvelope) (declared : ℕ) (i : code.Result SetInspection ProjectionPatchReadFault) → check_counted (preflight_by id l life e >> inspection_by l c e declared i) ≡ true
 steps_counted id l life c e declared i = then_counted _ _ (preflight_counted id l life e) (inspection_counted l c e declared i)

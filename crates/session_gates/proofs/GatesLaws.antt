@@ -22,6 +22,8 @@ use Rattle.patch_sets.specs.SetAnswers.{operation_count_lem}
 use Rattle.check_findings.specs.Found.{is_found}
 use Rattle.check_quick.specs.Anchors.{anchored, absent_of}
 use Rattle.check_quick.specs.QuickAnswers.{inspected_by, inspection_answer}
+use Rattle.std.specs.Prelude as code
+use Rattle.projection_patch.specs.declared.read_values.ProjectionPatchReadFault.{ProjectionPatchReadFault}
 use Rattle.check_quick.specs.declared.inspection.SetInspection.{SetInspection}
 use Rattle.check_quick.specs.declared.inspection.SetInspection.TheVariants as inspection
 use Rattle.session_lifecycle.specs.Meaning.{refusal_of, lifecycle_of, cursor_of, limits_of}
@@ -103,7 +105,7 @@ module _ (s : Session) (nodes bindings collections : List ℕ) (lent : Lent s.ca
     unfolding inspection_by inspected_by is_found require
     patches_are = go (is_empty (findings ps).found)
       where
-        go : (t : Bool) → erased (require t checks_failed >> (counted >> (few >> (known >> (taken >> pass ps))))) ≡ inspection_by s.limits s.cursor e declared (if not t then inspection.Found else inspection.Clean (length ps) (operation_count_lem ps) (absent_of (anchored nodes bindings collections) (operations_of ps)))
+        go : (t : Bool) → erased (require t checks_failed >> (counted >> (few >> (known >> (taken >> pass ps))))) ≡ inspection_by s.limits s.cursor e declared (code.Ok (if not t then inspection.Found else inspection.Clean (length ps) (operation_count_lem ps) (absent_of (anchored nodes bindings collections) (operations_of ps))))
         go true = counts_are
         go false = refl
 
@@ -142,7 +144,7 @@ module _ (ed : Edition) (id : ℕ) (limits : ShellLifecycleLimits) (state : Shel
   pub preflight_refused : (answer : Check (Unit {0})) (r : SessionRefusal) (n : ℕ) → answer ≡ refuse r n → refuse r n ≡ preflight_by id (limits_of limits) (lifecycle_of state.lifecycle) e → ByBatch answer
   preflight_refused answer r n is h = by_steps answer (is ∙ ap (λ c. c >> behind) h)
 
-  pub preflight_passed : (answer : Check (Unit {0})) → pass tt ≡ preflight_by id (limits_of limits) (lifecycle_of state.lifecycle) e → (i : SetInspection) → i ≡ inspection_answer nodes bindings collections (read_set ed set)
+  pub preflight_passed : (answer : Check (Unit {0})) → pass tt ≡ preflight_by id (limits_of limits) (lifecycle_of state.lifecycle) e → (i : code.Result SetInspection ProjectionPatchReadFault) → i ≡ inspection_answer nodes bindings collections (read_set ed set)
       → answer ≡ inspection_by (limits_of limits) (cursor_of state.replay_cursor) e declared i → ByBatch answer
   preflight_passed answer h i told is = by_steps answer (is ∙ ap (inspection_by (limits_of limits) (cursor_of state.replay_cursor) e declared) told ∙ ap (λ c. c >> behind) h)
 

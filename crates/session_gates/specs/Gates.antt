@@ -7,6 +7,8 @@ use Rattle.spec_session.specs.Diagnostics.{SessionRefusal, session_number, sessi
 use Rattle.spec_session.specs.Lifecycle.{is_closed}
 use Rattle.spec_session.specs.Batch.{BatchEnvelope, Check, pass, refuse, ◌>>◌, require, known_targets, takes_number}
 use Rattle.projection_patch.specs.ReadAnswers.{fault_of}
+use Rattle.std.specs.Prelude as code
+use Rattle.projection_patch.specs.declared.read_values.ProjectionPatchReadFault.{ProjectionPatchReadFault}
 use Rattle.check_quick.specs.declared.inspection.SetInspection.{SetInspection}
 use Rattle.check_quick.specs.declared.inspection.SetInspection.TheVariants as inspection
 use Rattle.projection_patch.specs.declared.read_values.ProjectionPatchReadFault.{ProjectionPatchReadFault}
@@ -57,10 +59,10 @@ unfoldable pub targets_by : ℕ → Cursor → BatchEnvelope → Check (Unit {0}
 targets_by absent c e = known_targets absent >> replay_by c e
 
 -- steps 4 to 8, by what the pass over the set found
-unfoldable pub inspection_by : Limits → Cursor → BatchEnvelope → ℕ → SetInspection → Check (Unit {0})
-inspection_by l c e declared (inspection.Refused f) = refuse (of_reading (fault_of f)) 1
-inspection_by l c e declared inspection.Found = refuse checks_failed 1
-inspection_by l c e declared (inspection.Clean n k absent) = counts_by l e declared n k >> targets_by absent c e
+unfoldable pub inspection_by : Limits → Cursor → BatchEnvelope → ℕ → code.Result SetInspection ProjectionPatchReadFault → Check (Unit {0})
+inspection_by l c e declared (code.Err f) = refuse (of_reading (fault_of f)) 1
+inspection_by l c e declared (code.Ok inspection.Found) = refuse checks_failed 1
+inspection_by l c e declared (code.Ok (inspection.Clean n k absent)) = counts_by l e declared n k >> targets_by absent c e
 
 -- whether all steps passed, without the patches
 abbrev pub erased : Check (List Patch) → Check (Unit {0})

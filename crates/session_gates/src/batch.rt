@@ -48,12 +48,12 @@ fn check_inspection(
     cursor: ProjectionReplayCursor,
     envelope: OrderedProjectionPatchBatchEnvelope,
     declared: u64,
-    inspected: SetInspection,
+    inspected: Result<SetInspection, ProjectionPatchReadFault>,
 ) -> Result<(), GateRefusal>
     ensures { gate_of result ≡ inspection_by (limits_of limits) (cursor_of cursor) (batch_envelope_of envelope) declared inspected }
 {
-    match inspected {
-        SetInspection::Refused(fault) => Err(fault.into()),
+    let readable = inspected?;
+    match readable {
         SetInspection::Found => Err(ShellRefusal::ChecksFailed.into()),
         SetInspection::Clean {
             patch_count,

@@ -92,12 +92,9 @@ pub fn depends(set: &[u8], edition: ProjectionPatchEdition, out: &mut [u64]) -> 
     ensures written { out.new ≡ (dependencies_of (edition_of edition) set.now out.old).output }
 {
     match quick_set::quick_check(set, edition) {
-        QuickCheck::Clean {
-            patch_count: _,
-            operation_count: _,
-        } => depends_clean(set, edition, out),
-        QuickCheck::Found => DependenciesAnswer::Refused(DependenciesRefusal::Findings),
-        QuickCheck::Refused(fault) => DependenciesAnswer::Refused(DependenciesRefusal::Unreadable(
+        Ok(QuickCheck::Clean { .. }) => depends_clean(set, edition, out),
+        Ok(QuickCheck::Found) => DependenciesAnswer::Refused(DependenciesRefusal::Findings),
+        Err(fault) => DependenciesAnswer::Refused(DependenciesRefusal::Unreadable(
             fault,
         )),
     }

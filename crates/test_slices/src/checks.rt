@@ -5,6 +5,7 @@ use check_quick::quick_set::QuickCheck;
 use check_set::check_set as set_check;
 use check_set::check_set::{CheckPlace, PatchSetCheck};
 use projection_patch::patch::ProjectionPatchEdition;
+use projection_patch::read_values::ProjectionPatchReadFault;
 use std::io;
 
 // The longest slice that is lent.
@@ -39,14 +40,11 @@ fn show_answer(rt: &impl Print, answer: PatchSetCheck) -> io::Result<()> {
     }
 }
 
-fn show_quick(rt: &impl Print, answer: QuickCheck) -> io::Result<()> {
+fn show_quick(rt: &impl Print, answer: Result<QuickCheck, ProjectionPatchReadFault>) -> io::Result<()> {
     match answer {
-        QuickCheck::Clean {
-            patch_count: _,
-            operation_count: _,
-        } => rt.print("clean:"),
-        QuickCheck::Found => rt.print("found:"),
-        QuickCheck::Refused(_) => rt.print(":"),
+        Ok(QuickCheck::Clean { .. }) => rt.print("clean:"),
+        Ok(QuickCheck::Found) => rt.print("found:"),
+        Err(_) => rt.print(":"),
     }
 }
 

@@ -5,19 +5,19 @@ use Rattle.projection_patch.specs.Meaning.{edition_of}
 use Rattle.panel_application.specs.ApplicationLaws.{clean_became, found_became, refused_became}
 use Rattle.panel_application.proofs.apply_projection_patch_set.Goals as goal
 
-pub returns-in-Clean : goal.returns-in-Clean
-returns-in-Clean c =
+pub returns-in-Ok-Clean : goal.returns-in-Ok-Clean
+returns-in-Ok-Clean c =
     record {
       applied = (λ p s.
-          clean_became p (edition_of c.args.edition) c.args.set.now c.quick_check.result c.quick_check.ensures c.apply_readable.result.state _ _ c.in-Clean.is c.apply_readable.result.outcome
+          clean_became p (edition_of c.args.edition) c.args.set.now c.quick_check.result c.quick_check.ensures c.apply_readable.result.state _ _ c.in-Ok-Clean.is c.apply_readable.result.outcome
           (λ ps readable. c.apply_readable.ensures.steps ps p readable s));
       kept = c.apply_readable.ensures.kept;
     }
 
-pub returns-in-Found : goal.returns-in-Found
-returns-in-Found c =
-    record { applied = (λ p s. found_became p (edition_of c.args.edition) c.args.set.now c.quick_check.result c.quick_check.ensures c.args.state c.in-Found.is); kept = refl }
+pub returns-in-Ok-Found : goal.returns-in-Ok-Found
+returns-in-Ok-Found c =
+    record { applied = (λ p s. found_became p (edition_of c.args.edition) c.args.set.now c.quick_check.result c.quick_check.ensures c.args.state c.in-Ok-Found.is); kept = refl }
 
-pub returns-in-Refused : goal.returns-in-Refused
-returns-in-Refused c =
-    record { applied = (λ p s. refused_became p (edition_of c.args.edition) c.args.set.now c.quick_check.result c.quick_check.ensures c.args.state _ c.in-Refused.is); kept = refl }
+pub returns-in-Err : goal.returns-in-Err
+returns-in-Err c =
+    record { applied = (λ p s. refused_became p (edition_of c.args.edition) c.args.set.now c.quick_check.result c.quick_check.ensures c.args.state _ c.in-Err.is); kept = refl }
