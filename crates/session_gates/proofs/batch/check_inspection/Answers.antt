@@ -27,7 +27,7 @@ pub returns-in_err-evaluate_counts-in-Clean : goal.returns-in_err-evaluate_count
 unfolding step_of inspection_by
 returns-in_err-evaluate_counts-in-Clean c =
     rw (c.in_ok-readable.was, c.in-Clean.is, sym c.in_err-evaluate_counts-in-Clean.ensures)
-    (one_handed_on c.from_residual.result _ c.from_residual.ensures.1)
+    (one_handed_on c.from_residual-in_err-evaluate_counts-in-Clean.result _ c.from_residual-in_err-evaluate_counts-in-Clean.ensures.1)
 
 pub returns-in_err-check_targets-in-Clean : goal.returns-in_err-check_targets-in-Clean
 unfolding gate_of step_of inspection_by targets_by
