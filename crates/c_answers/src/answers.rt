@@ -16,7 +16,7 @@ use session_steps::answers::{
 
 // 0 Applied, 1 NoChange, 2 Rejected, 3 no session in the memory, 4 no such edition; the diagnostics; the cursor after the call, if there is one.
 #[repr(C)]
-#[derive(Drop)]
+#[derive(Clone, Copy)]
 pub struct GeysertrayAnswer {
     pub disposition: u64,
     pub number: u64,
@@ -29,7 +29,7 @@ pub struct GeysertrayAnswer {
 
 // The same of a lifecycle step, with 4 for no such command, and the lifecycle after it: 0 Created, 1 Active, 2 Suspended, 3 Closed.
 #[repr(C)]
-#[derive(Drop)]
+#[derive(Clone, Copy)]
 pub struct GeysertrayLifecycle {
     pub disposition: u64,
     pub number: u64,

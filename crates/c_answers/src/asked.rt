@@ -37,10 +37,7 @@ pub fn edition_of(edition: u64) -> ProjectionPatchEdition
 pub fn is_edition(edition: u64) -> bool
     ensures { result ≡ is_edition edition }
 {
-    if edition == 1 {
-        return true;
-    }
-    edition == 2
+    matches!(edition, 1 | 2)
 }
 
 // The surface of a patch, if the first number is not 0.

@@ -10,7 +10,7 @@ use patch_part_writer::written::WriteRefusal;
 
 // 0 and how many; 2 and the number of the rule that refuses; 3 no session in the memory; 4 no such edition. A refusal leaves every byte.
 #[repr(C)]
-#[derive(Drop)]
+#[derive(Clone, Copy)]
 pub struct GeysertrayCount {
     pub disposition: u64,
     pub number: u64,

@@ -12,7 +12,7 @@ use session_explain::reasons::{BatchExplanation, BatchReason};
 // 0 the batch would be taken; 2 it would be refused, with this number and by this rule, GEYSERTRAY_RULE_ and its name, or both are 0 where the
 // session's limit of 0 diagnostics withholds them; 3 no session in the memory; 4 no such edition.
 #[repr(C)]
-#[derive(Drop)]
+#[derive(Clone, Copy)]
 pub struct GeysertrayExplanation {
     pub disposition: u64,
     pub number: u64,

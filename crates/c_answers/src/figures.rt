@@ -11,7 +11,7 @@ use session_explain::reasons::BatchReason;
 
 // The patch and the operation that a rule tells, by their indices from 0: 1 where it tells one.
 #[repr(C)]
-#[derive(Drop)]
+#[derive(Clone, Copy)]
 pub struct GeysertrayRulePlace {
     pub has_patch: u64,
     pub patch: u64,
@@ -21,7 +21,7 @@ pub struct GeysertrayRulePlace {
 
 // So many figures of a rule, in the order of docs/RULES.md without patch and operation; the others are 0.
 #[repr(C)]
-#[derive(Drop)]
+#[derive(Clone, Copy)]
 pub struct GeysertrayFigures {
     pub count: u64,
     pub first: u64,

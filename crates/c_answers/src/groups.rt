@@ -1,5 +1,5 @@
 // A group by numbers: seven for each batch, and what its call answers.
-ghost use Rattle.std.specs.Prelude.{◌≡◌, ◌&&◌, min, length};
+ghost use Rattle.std.specs.Prelude.{◌≡◌, min, length};
 ghost use Rattle.spec_group.specs.Group.{group_batches};
 ghost use Rattle.session_lifecycle.specs.Meaning.{cursor_of};
 ghost use Rattle.session_group.specs.Groups.{batch_means, Names};
@@ -17,7 +17,7 @@ use session_lifecycle::state::{ProjectionReplayCursor, ShellSessionId};
 // 2 the second of those to work in; and the answer: 0 with the cursor afterwards, the refused batch's own with the cursor from before the group, 2
 // and 17 for what is no group, 3 no session in the memory, 4 no such edition or numbers that are no sevens.
 #[repr(C)]
-#[derive(Drop)]
+#[derive(Clone, Copy)]
 pub struct GeysertrayGroupAnswer {
     pub count: u64,
     pub place: u64,
@@ -26,7 +26,7 @@ pub struct GeysertrayGroupAnswer {
 }
 
 // The batches in the first eight places, and whether each of them has an edition.
-#[derive(Drop)]
+#[derive(Clone, Copy)]
 pub struct BatchesRead {
     pub known: bool,
     pub batches: [GroupBatch; GroupBatch::MOST],
@@ -36,12 +36,6 @@ pub struct BatchesRead {
 pub const BATCH_NUMBERS: usize = 7;
 
 const NO_SESSION: u64 = 3;
-
-fn both(a: bool, b: bool) -> bool
-    ensures { result ≡ (a && b) }
-{
-    a && b
-}
 
 // The batch of seven numbers; its edition is the first or the second.
 fn batch_of(numbers: &[u64]) -> GroupBatch
@@ -83,10 +77,7 @@ fn no_batch() -> GroupBatch {
 fn places_used(count: usize) -> usize
     ensures { result ≡ min count group_batches }
 {
-    if count < GroupBatch::MOST {
-        return count;
-    }
-    GroupBatch::MOST
+    count.min(GroupBatch::MOST)
 }
 
 // Reads as many batches as a group can have.
@@ -97,14 +88,12 @@ pub fn read_batches(numbers: &[u64]) -> BatchesRead
     let used = places_used(numbers.len() / BATCH_NUMBERS);
     let mut known = true;
     let mut batches = [no_batch(); GroupBatch::MOST];
-    let mut place: usize = 0;
-    while place < used {
+    for place in 0..used {
         let from = place * BATCH_NUMBERS;
         let end = from + BATCH_NUMBERS;
         let at = from + 5;
-        known = both(known, asked::is_edition(numbers[at]));
+        known &= asked::is_edition(numbers[at]);
         batches[place] = batch_of(&numbers[from..end]);
-        place += 1;
     }
     BatchesRead { known, batches }
 }

@@ -8,7 +8,7 @@ use set_dependencies::depends::DependenciesAnswer;
 // 0, and whether the findings are those of a patch (1, and its index from 0) or of the set (0, also where there are none), how many there are
 // and how many records were written; 2 and the number of reading's rule; 4 no such edition.
 #[repr(C)]
-#[derive(Drop)]
+#[derive(Clone, Copy)]
 pub struct GeysertrayChecked {
     pub disposition: u64,
     pub number: u64,
@@ -21,7 +21,7 @@ pub struct GeysertrayChecked {
 // 0, and either never is 1 with the first operation that contradicts those before it, by its patch and its index there; or how many keys must
 // be there at the start and how many must be absent. 2 and the number of the rule that refuses; 4 no such edition.
 #[repr(C)]
-#[derive(Drop)]
+#[derive(Clone, Copy)]
 pub struct GeysertrayDependencies {
     pub disposition: u64,
     pub number: u64,

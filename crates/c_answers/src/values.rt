@@ -11,7 +11,7 @@ use projection_patch::patch::ProjectionPatchValue;
 // 0, or 3 for no session in the memory; found is 1, or 0 and then every other number and byte is 0; the mark is the id of the patch that last
 // gave the value. The kinds are 1 quad (N 0, F 1, T 2, S 3), 2 signed, 3 text, 4 unsigned, 5 score, which stands in unsigned_number.
 #[repr(C)]
-#[derive(Drop)]
+#[derive(Clone, Copy)]
 pub struct GeysertrayValue {
     pub disposition: u64,
     pub found: u64,
@@ -26,7 +26,7 @@ pub struct GeysertrayValue {
 
 // Likewise; the availability is 0 Available, 1 Unavailable, 2 Hidden, 3 Pending, 4 Stale.
 #[repr(C)]
-#[derive(Drop)]
+#[derive(Clone, Copy)]
 pub struct GeysertrayAvailability {
     pub disposition: u64,
     pub found: u64,
@@ -36,7 +36,7 @@ pub struct GeysertrayAvailability {
 
 // The entry at a position: its key, and its value.
 #[repr(C)]
-#[derive(Drop)]
+#[derive(Clone, Copy)]
 pub struct GeysertrayEntry {
     pub key: u64,
     pub value: GeysertrayValue,
@@ -44,7 +44,7 @@ pub struct GeysertrayEntry {
 
 // A key of a page: its position in the collection, and its value.
 #[repr(C)]
-#[derive(Drop)]
+#[derive(Clone, Copy)]
 pub struct GeysertrayPagePlace {
     pub position: u64,
     pub value: GeysertrayValue,

@@ -11,7 +11,7 @@ use session_turns::{RegisterRefusal, SetUpRefusal, Turn};
 
 // Whether a sender was named (1), and then which, and the number for its batch.
 #[repr(C)]
-#[derive(Drop)]
+#[derive(Clone, Copy)]
 pub struct GeysertrayTurn {
     pub disposition: u64,
     pub named: u64,

@@ -32,12 +32,9 @@ pub(crate) fn send_until_applied<'a>(
         → SentOn result (anchors_with nodes.now pairs.now collections.now) (half_with to_head.new to_bindings.new to_availability.new to_entries.new to_lengths.new) left sets.now m (run_left left m sets.now) }
     ensures whatever { SentFits result left sets.now (half_with to_head.old to_bindings.old to_availability.old to_entries.old to_lengths.old) (half_with to_head.new to_bindings.new to_availability.new to_entries.new to_lengths.new) }
 {
-    let batches = left.batches;
-    let count = left.count;
-    let mut place = left.place;
     let mut at = left.at;
-    while place < count {
-        let batch = batches[place];
+    for place in left.place..left.count {
+        let batch = left.batches[place];
         let end = at + batch.bytes;
         let answer = one::send_one(
             head,
@@ -64,7 +61,6 @@ pub(crate) fn send_until_applied<'a>(
             }),
         }
         at = end;
-        place += 1;
     }
     Ok(None)
 }

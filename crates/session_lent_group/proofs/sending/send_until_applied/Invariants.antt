@@ -15,8 +15,4 @@ use Rattle.session_lent_group.proofs.sending.send_until_applied.Given as goal
 
 abbrev pub invariant-loop-place : goal.invariant-loop-place
 invariant-loop-place l =
-    UnchangedUpTo (anchors_with l.nodes l.pairs l.collections) l.head l.bindings l.availability l.entries l.sets (record { batches = l.batches; count = l.count; place = l.initial.place; at = l.initial.at }) l.place l.at (half_with l.initial.to_head l.initial.to_bindings l.initial.to_availability l.initial.to_entries l.initial.to_lengths) (half_with l.to_head l.to_bindings l.to_availability l.to_entries l.to_lengths)
-
-abbrev pub decreases-loop-place : goal.decreases-loop-place
-decreases-loop-place l =
-    l.count - l.place
+    UnchangedUpTo (anchors_with l.nodes l.pairs l.collections) l.head l.bindings l.availability l.entries l.sets l.left l.place l.at (half_with l.initial.to_head l.initial.to_bindings l.initial.to_availability l.initial.to_entries l.initial.to_lengths) (half_with l.to_head l.to_bindings l.to_availability l.to_entries l.to_lengths)
