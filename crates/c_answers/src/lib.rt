@@ -1,4 +1,5 @@
 // What the calls for C answer, as numbers, and what they are asked for by numbers. The crate that exports them calls these.
+// Kinds, flags and refusals are raw numbers here, and a value stands beside its flag: that is the C interface.
 #![tactic(auto)]
 
 pub mod answers;

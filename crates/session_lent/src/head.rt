@@ -22,7 +22,8 @@ fn lifecycle_of(number: u64) -> ShellLifecycle
     }
 }
 
-// 0 Created, 1 Active, 2 Suspended, 3 Closed.
+// 0 Created, 1 Active, 2 Suspended, 3 Closed. C reads and writes heads, so they are raw numbers; no From says this, since both types are of
+// other crates.
 pub fn lifecycle_number(lifecycle: ShellLifecycle) -> u64
     ensures { result ≡ lifecycle_number (lifecycle_of lifecycle) }
 {

@@ -13,7 +13,8 @@ pub enum LentHalf {
     Second,
 }
 
-// The batches that are left: those from a place on, and the byte at which the set of the next one begins.
+// The batches that are left: those from a place on, and the byte at which the set of the next one begins. An array and its count, since the engine
+// has no heap.
 #[derive(Clone, Copy)]
 pub struct GroupLeft {
     pub batches: [GroupBatch; GroupBatch::MOST],

@@ -139,7 +139,8 @@ fn keep_turn(answer: Option<Turn>, turns: SenderTurns, numbers: &mut [u64])
     }
 }
 
-// Names the sender whose turn it is, which then waits no more; none where the slice has not eleven numbers. With nobody waiting every number stays. The cursor is the session's at this call.
+// Names the sender whose turn it is, which then waits no more; none where the slice has not eleven numbers. With nobody waiting every number
+// stays. The cursor is the session's at this call.
 pub fn turn(numbers: &mut [u64], cursor: ProjectionReplayCursor) -> Option<Option<Turn>>
     ensures { TurnCall (cursor_of cursor) numbers.old result numbers.new }
 {

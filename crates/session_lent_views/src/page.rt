@@ -4,7 +4,8 @@ ghost use Rattle.session_lent_views.specs.Views.{PageCall};
 use crate::tables;
 use panel_page::PageAnswer;
 
-// One row for each key of a collection, in their order; none where the slices cannot hold a session. Places behind the last key stay; a refusal and none leave every byte.
+// One row for each key of a collection, in their order; none where the slices cannot hold a session. Places behind the last key stay; a refusal
+// and none leave every byte.
 pub fn collection_page(
     head: &[u64],
     entries: &[u8],
