@@ -9,7 +9,8 @@ use crate::one;
 use crate::places::{GroupLeft, RefusedBatch};
 use session_steps::answers::ProjectionPatchApplicationDisposition;
 
-// The place behind the batch that was applied, and the byte behind its set; none where no batch was. A batch without patches leaves the session, so that the next one goes from the same half to the same other.
+// The place behind the batch that was applied, and the byte behind its set; none where no batch was. A batch without patches leaves the session,
+// so that the next one goes from the same half to the same other.
 pub(crate) fn send_until_applied<'a>(
     head: &[u64],
     nodes: &[u64],
