@@ -24,7 +24,7 @@ pub struct GroupLeft {
 }
 
 // The first batch that was refused, by its place, and its answer.
-#[derive(Clone, Copy)]
+#[derive(Drop)]
 pub struct RefusedBatch {
     pub place: usize,
     pub answer: ProjectionPatchApplicationResult,

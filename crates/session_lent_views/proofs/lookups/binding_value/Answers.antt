@@ -2,11 +2,11 @@
 use Rattle.session_lent_views.specs.ViewsLaws.{tables_stored, bindings_held, bindings_shaped_lem, rows_none, rows_some, viewed_refused, viewed_answered}
 use Rattle.session_lent_views.proofs.lookups.binding_value.Goals as goal
 
-pub returns-in_none-count : goal.returns-in_none-count
-returns-in_none-count c =
-    viewed_refused c.from_residual.result c.from_residual.ensures (rows_none _ _ c.binding_rows.result c.binding_rows.ensures c.in_none-count.was) (bindings_shaped_lem _ _)
+pub returns-in_err-count : goal.returns-in_err-count
+returns-in_err-count c =
+    viewed_refused c.from_residual.result c.from_residual.ensures (rows_none _ _ c.binding_rows.result c.binding_rows.ensures c.in_err-count.was) (bindings_shaped_lem _ _)
 
 pub returns : goal.returns
 returns c =
-    let some = rows_some _ _ c.binding_rows.result c.in_some-count.value c.binding_rows.ensures c.in_some-count.was in
+    let some = rows_some _ _ c.binding_rows.result _ c.binding_rows.ensures c.in_ok-count.was in
     viewed_answered c.binding_value.result some.0 (λ m h. c.binding_value.ensures m.projection (bindings_held _ some.1 h) (tables_stored h.tables).valid)

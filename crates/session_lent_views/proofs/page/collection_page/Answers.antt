@@ -2,11 +2,11 @@
 use Rattle.session_lent_views.specs.ViewsLaws.{tables_stored, entries_held, entries_shaped_lem, rows_none, rows_some, written_refused, written_answered}
 use Rattle.session_lent_views.proofs.page.collection_page.Goals as goal
 
-pub returns-in_none-count : goal.returns-in_none-count
-returns-in_none-count c =
-    written_refused _ c.from_residual.result c.from_residual.ensures (rows_none _ _ c.entry_rows.result c.entry_rows.ensures c.in_none-count.was) (entries_shaped_lem _ _)
+pub returns-in_err-count : goal.returns-in_err-count
+returns-in_err-count c =
+    written_refused _ c.from_residual.result c.from_residual.ensures (rows_none _ _ c.entry_rows.result c.entry_rows.ensures c.in_err-count.was) (entries_shaped_lem _ _)
 
 pub returns : goal.returns
 returns c =
-    let some = rows_some _ _ c.entry_rows.result c.in_some-count.value c.entry_rows.ensures c.in_some-count.was in
+    let some = rows_some _ _ c.entry_rows.result _ c.entry_rows.ensures c.in_ok-count.was in
     written_answered _ _ c.collection_page.result some.0 (c.collection_page.ensures.told, c.collection_page.ensures.kept) (λ m h. (c.collection_page.ensures.told, c.collection_page.ensures.written m.projection (entries_held _ some.1 h) (tables_stored h.tables).valid))
