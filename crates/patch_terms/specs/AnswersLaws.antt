@@ -1,5 +1,4 @@
 -- What is answered of a line by where its tabs stand, what its key spells and how its text is judged.
-use Rattle.std.specs.Prelude as code
 use Rattle.std.specs.Prelude.{ℕ, suc, ◌-◌, ◌≤◌, ◌<◌, ◌≡◌, Bool, ◌&&◌, ◌≢◌, eqb, Result, Ok, Err, if◌then◌else◌}
 use Rattle.std.proofs.Math.Path.{refl, sym, ap}
 use Rattle.std.proofs.Common.{◌∙◌, arith}
@@ -24,6 +23,47 @@ use Rattle.patch_terms.specs.declared.TermRefusal.TheVariants.{OtherForm, OverCa
 use Rattle.patch_terms.specs.Places.{byte_place_of}
 use Rattle.patch_terms.specs.PlacesLaws.{byte_place_of_within, place_lacks, place_found, place_none}
 use Rattle.patch_terms.specs.Answers.{term_ok, judged_term, term_to, term_answer}
+
+-- ---- the text
+
+module _ (k start : ℕ) (t : List ℕ) where
+  pub term_malformed : judgement t ≡ Err Malformed → Err OtherForm ≡ judged_term k start t
+  term_malformed e = go (allowed true t) refl (few_characters true t) e
+    where
+      go : (a : Bool) → allowed true t ≡ a → (f : Bool) → judged a f ≡ Err Malformed → Err OtherForm ≡ judged_term k start t
+      go true h true e = absurd (let z : ◌≡◌ {A = ℕ} 0 1 = cc in omega arith)
+      go true h false e = absurd (let z : ◌≡◌ {A = ℕ} 0 1 = cc in omega arith)
+      go false h f e = sym (rw h)
+
+  pub term_many : judgement t ≡ Err ManyCharacters → Err OverCapacity ≡ judged_term k start t
+  unfolding keeps_text
+  term_many e = go (allowed true t) refl (few_characters true t) refl e
+    where
+      not_both : (a : Bool) → (a && false) ≡ false
+      not_both true = refl
+      not_both false = refl
+
+      go : (a : Bool) → allowed true t ≡ a → (f : Bool) → few_characters true t ≡ f → judged a f ≡ Err ManyCharacters → Err OverCapacity ≡ judged_term k start t
+      go true h true g e = absurd (let z : ◌≡◌ {A = ℕ} 0 1 = cc in omega arith)
+      go true h false g e = sym (rw (h, g, not_both))
+      go false h f g e = absurd (let z : ◌≡◌ {A = ℕ} 0 1 = cc in omega arith)
+
+  module _ (e : judgement t ≡ Ok tt) where
+    allowed_few : (allowed true t ≡ true) × (few_characters true t ≡ true)
+    allowed_few = go (allowed true t) (few_characters true t) e
+      where
+        go : (a f : Bool) → judged a f ≡ Ok tt → (a ≡ true) × (f ≡ true)
+        go true true e = (refl, refl)
+        go true false e = absurd (let z : ◌≡◌ {A = ℕ} 0 1 = cc in omega arith)
+        go false f e = absurd (let z : ◌≡◌ {A = ℕ} 0 1 = cc in omega arith)
+
+    pub term_long : text_bytes < length t → Err OverCapacity ≡ judged_term k start t
+    unfolding keeps_text
+    term_long h = sym (rw (allowed_few.0, lt-leb (length t) text_bytes h))
+
+    pub term_kept : length t ≤ text_bytes → term_ok k start ≡ judged_term k start t
+    unfolding keeps_text
+    term_kept h = sym (rw (allowed_few.0, le-leb (length t) text_bytes h, allowed_few.1))
 
 -- ---- the line
 

@@ -1,4 +1,4 @@
--- The first n elements of an array, passed one by one.
+-- The elements of a slice, passed one by one.
 use Rattle.std.specs.Prelude as code
 use Prim.Native.Nat.{ℕ, zero, suc, ◌+◌, ◌≤◌, ◌<◌}
 use mathlib.Core.Path.{◌≡◌, sym, ap, ap₂, ◌∙◌}
@@ -18,30 +18,14 @@ use Rattle.projection_patch.specs.declared.patch.OperationPlace.{OperationPlace}
 
 module _ {A : Type 0} where
   -- the element at index i, and what is left behind it
-  pub left_cons : (n : ℕ) (l : List A) (i : ℕ) (d : A) → i < n → n ≤ length l → drop i (take n l) ≡ get_or l i d ∷ drop (i + 1) (take n l)
-  left_cons n l i d more within =
-      drop-cons (take n l) i d (omega (arith, length-take-le n l within))
-      ∙ ap₂ (λ (x : A) (xs : List A). x ∷ xs) (get_or-take n l i d more) (ap (λ (k : ℕ). drop k (take n l)) (sym (add-one i)))
-
-  -- nothing is left behind the last
-  pub left_none : (n : ℕ) (l : List A) (i : ℕ) → n ≤ i → i ≤ n → n ≤ length l → drop i (take n l) ≡ []
-  left_none n l i h k within =
-      let all : i ≡ length (take n l) = omega (arith, length-take-le n l within) in
-      ap (λ (j : ℕ). drop j (take n l)) all ∙ drop-length (take n l)
-
-  -- the same of all elements
   pub whole_cons : (l : List A) (i : ℕ) (d : A) → i < length l → drop i l ≡ get_or l i d ∷ drop (i + 1) l
   whole_cons l i d more = drop-cons l i d more ∙ ap (λ (k : ℕ). get_or l i d ∷ drop k l) (sym (add-one i))
 
-  all_get_d : (test : A → Bool) (l : List A) (i : ℕ) (d : A) → all test l ≡ true → i < length l → test (get_or l i d) ≡ true
+  -- each passes
+  pub all_get_d : (test : A → Bool) (l : List A) (i : ℕ) (d : A) → all test l ≡ true → i < length l → test (get_or l i d) ≡ true
   all_get_d test [] i d e h = absurd (omega arith)
   all_get_d test (x ∷ l) zero d e h = and_left (test x) (all test l) e
   all_get_d test (x ∷ l) (suc i) d e h = all_get_d test l i d (and_right (test x) (all test l) e) (omega arith)
-
-  -- each of the first n passes
-  pub each_passes : (test : A → Bool) (n : ℕ) (l : List A) (i : ℕ) (d : A) → all test (take n l) ≡ true → i < n → n ≤ length l → test (get_or l i d) ≡ true
-  each_passes test n l i d e more within =
-      ap test (sym (get_or-take n l i d more)) ∙ all_get_d test (take n l) i d e (omega (arith, length-take-le n l within))
 
 -- ---- what a read past the end of an array would give
 

@@ -2,6 +2,6 @@
 mod Elements
 mod Surveyed
 mod Verdict
-mod Turns
+mod Passes
 pub mod CallLaws
 pub mod Progress

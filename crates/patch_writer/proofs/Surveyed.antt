@@ -38,9 +38,6 @@ pub record HeadsSeen (hs : List ProjectionPatch) (operations bytes p : ℕ) : Ty
   pub few : operations ≤ patch_operations * p
   pub small : bytes ≤ 69 * p
 
-pub heads_start : (hs : List ProjectionPatch) → HeadsSeen hs 0 0 0
-heads_start hs = record { counted = omega arith; sized = omega arith; tested = refl; few = omega arith; small = omega arith }
-
 pub head_small : (h : ProjectionPatch) → head_size h ≤ 69
 head_small h = omega (arith, surface_small h.envelope.surface_id)
 
@@ -105,9 +102,6 @@ pub record OperationsSeen (ed : Edition) (texts : List ℕ) (ps : List Operation
   pub tested : all short_at (drop i ps) ≡ all short_at ps
   pub together : worse judgement (judged_values ed texts (drop i ps)) ≡ judged_values ed texts ps
   pub small : bytes ≤ (31 + text_bytes) * i
-
-pub operations_start : (ed : Edition) (texts : List ℕ) (ps : List OperationPlace) → OperationsSeen ed texts ps 0 (Ok tt) 0
-operations_start ed texts ps = record { sized = omega arith; tested = refl; together = refl; small = omega arith }
 
 module _ {ed : Edition} {texts : List ℕ} {ps : List OperationPlace} {bytes : ℕ} {judgement : Result (Unit {0}) TextFault} {i : ℕ} (seen : OperationsSeen ed texts ps bytes judgement i) where
   module _ (x : OperationPlace) (rest : drop i ps ≡ x ∷ drop (i + 1) ps) where

@@ -1,11 +1,11 @@
 -- What the passes over a set answer before anything is written.
 use Rattle.std.specs.Prelude.{ℕ, ◌+◌, ◌≤◌, ◌≡◌, true, ◌&&◌, leb, length, take, drop, Result, Ok, Err, if◌then◌else◌}
-use mathlib.Core.List.{List, flat_map}
+use mathlib.Core.List.{List, map, flat_map}
 use Rattle.spec_lists.specs.Lists.{all}
 use Rattle.spec_patch.specs.TextRule.{allowed, few_characters}
 use Rattle.spec_patch.specs.Sizes.{set_bytes, highest_score}
 use Rattle.spec_patch.specs.Edition.{Edition, has_kind}
-use Rattle.spec_patch.specs.Encode.{encode_patch}
+use Rattle.spec_patch.specs.Encode.{encode_operation, encode_patch}
 use Rattle.spec_patch.specs.Write.{value_passes, well_formed, few_enough}
 use Rattle.projection_patch.specs.Meaning.{value_of, operation_of}
 use Rattle.projection_patch.specs.declared.patch.ProjectionPatch.{ProjectionPatch}
@@ -22,7 +22,7 @@ use Rattle.patch_part_writer.specs.Extent.{value_text, operation_text}
 use Rattle.patch_part_writer.specs.Parts.{inside_texts}
 use Rattle.patch_part_writer.specs.declared.written.WriteRefusal.{WriteRefusal}
 use Rattle.patch_part_writer.specs.declared.written.WriteRefusal.TheVariants as refusal
-use Rattle.patch_writer.specs.Set.{list_of, heads, used, operation_total, head_sizes, operation_sizes, set_size, few_operations, short_at, inside_at, allowed_at, few_at, counts_fit, capacities_kept}
+use Rattle.patch_writer.specs.Set.{operation_at, list_from, heads, used, operation_total, head_sizes, operation_sizes, set_size, few_operations, short_at, inside_at, allowed_at, few_at, counts_fit, capacities_kept}
 
 -- so many operations, and so many bytes
 abbrev pub counts : ℕ → ℕ → Result (ℕ × ℕ) WriteRefusal
@@ -78,10 +78,29 @@ set_survey ed texts set =
     if capacities_kept set then by_values (operation_total (heads set)) (set_size set) (judged_values ed texts (used set))
     else Err refusal.OverCapacity
 
--- what the pass that writes counts on: the counts fit, the texts are within the texts and keep their capacity, and the output has room
-pub record ReadyToWrite (texts : List ℕ) (set : ProjectionPatchSet) (operations room at : ℕ) : Type 0 where
-  pub counted : operations ≡ operation_total (heads set)
-  pub fit : counts_fit set ≡ true
-  pub short : all short_at (used set) ≡ true
-  pub inside : all (inside_at texts) (used set) ≡ true
-  pub enough : at + length (flat_map encode_patch (list_of texts set)) ≤ room
+-- ---- the passes that write
+
+-- the bytes of operations
+abbrev pub operation_bytes : List ℕ → List OperationPlace → List ℕ
+operation_bytes texts ps = flat_map encode_operation (map (operation_at texts) ps)
+
+-- texts that are within the texts, and keep their capacity
+pub record TextsHold (texts : List ℕ) (ps : List OperationPlace) : Type 0 where
+  pub short : all short_at ps ≡ true
+  pub inside : all (inside_at texts) ps ≡ true
+
+-- what the pass over operations counts on: their texts hold, and the output has room
+pub record OperationsReady (texts : List ℕ) (ps : List OperationPlace) (room at : ℕ) : Type 0 where
+  pub hold : TextsHold texts ps
+  pub enough : at + length (operation_bytes texts ps) ≤ room
+
+-- heads whose counts fit and are those of the places, whose texts hold
+pub record HeadsHold (texts : List ℕ) (hs : List ProjectionPatch) (ps : List OperationPlace) : Type 0 where
+  pub few : all few_operations hs ≡ true
+  pub counted : operation_total hs ≡ length ps
+  pub hold : TextsHold texts ps
+
+-- what the pass over heads counts on: the counts fit, the texts are within the texts and keep their capacity, and the output has room
+pub record ReadyToWrite (texts : List ℕ) (hs : List ProjectionPatch) (ps : List OperationPlace) (room at : ℕ) : Type 0 where
+  pub heads : HeadsHold texts hs ps
+  pub enough : at + length (flat_map encode_patch (list_from texts hs ps)) ≤ room

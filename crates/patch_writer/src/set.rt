@@ -1,5 +1,4 @@
-// Writing of a whole patch list. The list is surveyed first, so that a refusal leaves the output as it was. A set is about 200 KB: each pass
-// over its operations stands in a function that takes it by value once, and heads and operations are written by one loop.
+// Writing of a whole patch list. The list is surveyed first, so that a refusal leaves the output as it was.
 ghost use Rattle.std.specs.Prelude.{◌≡◌, ℕ, ◌+◌, length, take};
 ghost use mathlib.Core.List.{flat_map};
 ghost use Rattle.spec_patch.specs.Encode.{encode_patch};
@@ -7,49 +6,50 @@ ghost use Rattle.spec_patch.specs.Read.{patches, read_set};
 ghost use Rattle.bytes_wire.specs.Write.{overwrite};
 ghost use Rattle.projection_patch.specs.Meaning.{edition_of};
 ghost use Rattle.patch_part_writer.specs.Answer.{written_at, output_at};
-ghost use Rattle.patch_writer.specs.Set.{list_of, patch_set_bytes};
-ghost use Rattle.patch_writer.specs.Survey.{ReadyToWrite};
+ghost use Rattle.patch_writer.specs.Set.{list_from, list_of, patch_set_bytes};
+ghost use Rattle.patch_writer.specs.Survey.{operation_bytes, OperationsReady, ReadyToWrite};
 
 use crate::survey::survey_set;
 use patch_part_writer::extent::{HEADING_BYTES, head_size, operation_size};
 use patch_part_writer::head::{store_head, store_heading};
 use patch_part_writer::operation::store_operation;
 use patch_part_writer::written::WriteRefusal;
-use projection_patch::patch::{ProjectionPatchEdition, ProjectionPatchSet};
+use projection_patch::patch::{OperationPlace, ProjectionPatch, ProjectionPatchEdition, ProjectionPatchSet};
 
-// Each turn writes a head, or the next operation of the patch whose head was written last. Gives the position behind the list.
+// Writes operations one behind the other. Gives the position behind them.
+fn write_operations(places: &[OperationPlace], texts: &[u8], out: &mut [u8], at: usize) -> usize
+    requires { OperationsReady texts.now places.now (length out.old) at }
+    ensures value { result ≡ at + length (operation_bytes texts.now places.now) }
+    ensures out_after { out.new ≡ overwrite out.old at (operation_bytes texts.now places.now) }
+{
+    let mut next = at;
+    for place in places {
+        let operation = place.operation;
+        store_operation(out, next, operation, texts);
+        next += operation_size(operation);
+    }
+    next
+}
+
+// Writes each head with its operations behind it. Gives the position behind the list.
 fn write_patches(
-    set: ProjectionPatchSet,
-    operations: usize,
+    heads: &[ProjectionPatch],
+    places: &[OperationPlace],
     texts: &[u8],
     out: &mut [u8],
     at: usize,
 ) -> usize
-    requires { ReadyToWrite texts.now set operations (length out.old) at }
-    ensures value { result ≡ at + length (flat_map encode_patch (list_of texts.now set)) }
-    ensures out_after { out.new ≡ overwrite out.old at (flat_map encode_patch (list_of texts.now set)) }
+    requires { ReadyToWrite texts.now heads.now places.now (length out.old) at }
+    ensures value { result ≡ at + length (flat_map encode_patch (list_from texts.now heads.now places.now)) }
+    ensures out_after { out.new ≡ overwrite out.old at (flat_map encode_patch (list_from texts.now heads.now places.now)) }
 {
     let mut next = at;
-    let mut p: usize = 0;
-    let mut i: usize = 0;
-    let mut left: usize = 0;
-    let mut turns = set.patch_count + operations;
-    while 0 < turns {
-        turns -= 1;
-        if left == 0 {
-            let patch = set.patches[p];
-            left = patch.operation_count;
-            p += 1;
-            store_head(out, next, patch);
-            next += head_size(patch);
-        } else {
-            let place = set.operations[i];
-            let operation = place.operation;
-            left -= 1;
-            i += 1;
-            store_operation(out, next, operation, texts);
-            next += operation_size(operation);
-        }
+    let mut rest = places;
+    for head in heads {
+        store_head(out, next, *head);
+        let (own, others) = rest.split_at(head.operation_count);
+        next = write_operations(own, texts, out, next + head_size(*head));
+        rest = others;
     }
     next
 }
@@ -73,5 +73,7 @@ pub fn write_patch_set(
         return Err(WriteRefusal::OutputTooShort);
     }
     store_heading(out, 0, set.patch_count, edition);
-    Ok(write_patches(set, operations, texts, out, HEADING_BYTES))
+    let heads = &set.patches[..set.patch_count];
+    let places = &set.operations[..operations];
+    Ok(write_patches(heads, places, texts, out, HEADING_BYTES))
 }

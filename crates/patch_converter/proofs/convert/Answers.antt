@@ -16,13 +16,11 @@ use Rattle.spec_conversion.proofs.ConversionLaws.{heading_within}
 use Rattle.bytes_wire.specs.Write.{overwrite}
 use Rattle.projection_patch.specs.Meaning.{edition_of}
 use Rattle.projection_patch.specs.ReadAnswers.{fault_of}
-use Rattle.patch_part_writer.proofs.Flags.{fails, not_false_holds}
 use Rattle.std.specs.Prelude.{Result, Ok, Err}
 use Rattle.patch_converter.specs.declared.ConversionRefusal.{ConversionRefusal}
 use Rattle.patch_converter.specs.Answers.{unread_to, conversion_answer, conversion_output}
 use Rattle.patch_converter.specs.AnswersLaws.{Readable, set_readable, set_not_read, is_unread, is_missing, is_short, is_converted, letter_length, ConversionLeft, left_unconverted, left_converted, converted_read}
 use mathlib.Core.Path.{ap}
-use mathlib.Core.Bool.{not}
 use Rattle.patch_converter.proofs.convert.Goals as goal
 use Rattle.patch_converter.proofs.convert.Goals.{After-has_every_kind, After-read_set, In_err-read_set}
 
@@ -58,11 +56,11 @@ long k = heading_within ((edition_of k.args.from)) ((k.args.set.now)) (listed k)
 
 pub returns-then-not-has_every_kind : goal.returns-then-not-has_every_kind
 returns-then-not-has_every_kind c =
-    let all = also-read (goal.at.returns-then-not-has_every_kind c).After-read_set _ _ (left_unconverted (out (goal.at.returns-then-not-has_every_kind c).After-read_set) model.kind_missing (is_missing (from (goal.at.returns-then-not-has_every_kind c).After-read_set) (set (goal.at.returns-then-not-has_every_kind c).After-read_set) (length (out (goal.at.returns-then-not-has_every_kind c).After-read_set)) (listed (goal.at.returns-then-not-has_every_kind c).After-has_every_kind).list (listed (goal.at.returns-then-not-has_every_kind c).After-has_every_kind).reads (asked (goal.at.returns-then-not-has_every_kind c).After-has_every_kind ∙ fails c.has_every_kind.result (ap not c.if-not-has_every_kind.true)))) in record { value = all.0; out_after = all.1.0; by_index = all.1.1 }
+    let all = also-read (goal.at.returns-then-not-has_every_kind c).After-read_set _ _ (left_unconverted (out (goal.at.returns-then-not-has_every_kind c).After-read_set) model.kind_missing (is_missing (from (goal.at.returns-then-not-has_every_kind c).After-read_set) (set (goal.at.returns-then-not-has_every_kind c).After-read_set) (length (out (goal.at.returns-then-not-has_every_kind c).After-read_set)) (listed (goal.at.returns-then-not-has_every_kind c).After-has_every_kind).list (listed (goal.at.returns-then-not-has_every_kind c).After-has_every_kind).reads (asked (goal.at.returns-then-not-has_every_kind c).After-has_every_kind ∙ c.if-not-has_every_kind.true))) in record { value = all.0; out_after = all.1.0; by_index = all.1.1 }
 
 pub returns-then-out-set : goal.returns-then-out-set
 returns-then-out-set c =
-    let all = also-read (goal.at.returns-then-out-set c).After-read_set _ _ (left_unconverted (out (goal.at.returns-then-out-set c).After-read_set) model.output_too_short (is_short (from (goal.at.returns-then-out-set c).After-read_set) (set (goal.at.returns-then-out-set c).After-read_set) (length (out (goal.at.returns-then-out-set c).After-read_set)) (listed (goal.at.returns-then-out-set c).After-has_every_kind).list (listed (goal.at.returns-then-out-set c).After-has_every_kind).reads (all_bytes (goal.at.returns-then-out-set c).After-read_set) (asked (goal.at.returns-then-out-set c).After-has_every_kind ∙ not_false_holds c.has_every_kind.result (ap not c.if-not-has_every_kind.false)) (omega (arith, c.if-out-set.true)))) in record { value = all.0; out_after = all.1.0; by_index = all.1.1 }
+    let all = also-read (goal.at.returns-then-out-set c).After-read_set _ _ (left_unconverted (out (goal.at.returns-then-out-set c).After-read_set) model.output_too_short (is_short (from (goal.at.returns-then-out-set c).After-read_set) (set (goal.at.returns-then-out-set c).After-read_set) (length (out (goal.at.returns-then-out-set c).After-read_set)) (listed (goal.at.returns-then-out-set c).After-has_every_kind).list (listed (goal.at.returns-then-out-set c).After-has_every_kind).reads (all_bytes (goal.at.returns-then-out-set c).After-read_set) (asked (goal.at.returns-then-out-set c).After-has_every_kind ∙ c.if-not-has_every_kind.false) (omega (arith, c.if-out-set.true)))) in record { value = all.0; out_after = all.1.0; by_index = all.1.1 }
 
 pub store_with_letter-requires : goal.store_with_letter-requires
 store_with_letter-requires c = (long (goal.at.store_with_letter-requires c).After-has_every_kind, omega (arith, c.if-out-set.false))
@@ -84,6 +82,6 @@ pub returns : goal.returns
 returns c =
     let all = let o = out (goal.at.returns c).After-read_set in
     let room : length (set (goal.at.returns c).After-read_set) ≤ length o = omega (arith, c.if-out-set.false) in
-    let done = is_converted (from (goal.at.returns c).After-read_set) (set (goal.at.returns c).After-read_set) (length o) (listed (goal.at.returns c).After-has_every_kind).list (listed (goal.at.returns c).After-has_every_kind).reads (all_bytes (goal.at.returns c).After-read_set) (asked (goal.at.returns c).After-has_every_kind ∙ not_false_holds c.has_every_kind.result (ap not c.if-not-has_every_kind.false)) room in
+    let done = is_converted (from (goal.at.returns c).After-read_set) (set (goal.at.returns c).After-read_set) (length o) (listed (goal.at.returns c).After-has_every_kind).list (listed (goal.at.returns c).After-has_every_kind).reads (all_bytes (goal.at.returns c).After-read_set) (asked (goal.at.returns c).After-has_every_kind ∙ c.if-not-has_every_kind.false) room in
     let written = c.store_with_letter.ensures ∙ ap (λ (ed : Edition). overwrite o 0 (after (goal.at.returns c).After-read_set ed)) c.other_edition-to.ensures in
     also-read (goal.at.returns c).After-read_set _ _ (left_converted o (after (goal.at.returns c).After-read_set (other_edition (from (goal.at.returns c).After-read_set))) done (length (set (goal.at.returns c).After-read_set)) (letter_length (set (goal.at.returns c).After-read_set) _ (long (goal.at.returns c).After-has_every_kind)) room _ written) in record { value = all.0; out_after = all.1.0; by_index = all.1.1 }

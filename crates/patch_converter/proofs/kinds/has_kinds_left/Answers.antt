@@ -13,13 +13,11 @@ use Rattle.spec_patch.specs.Write.{value_passes}
 use Rattle.spec_conversion.specs.Conversion.{kind_in, all_kinds}
 use Rattle.projection_patch.specs.Meaning.{edition_of}
 use Rattle.projection_patch.specs.ReadAnswers.{lent_from}
-use Rattle.patch_part_writer.proofs.Flags.{fails, not_false_holds}
 use Rattle.patch_walk.specs.Steps.{StepWithin, AtSteps}
 use Rattle.patch_walk.proofs.StepsLaws.{Visited, visited, opened, done, never_refused}
 use Rattle.patch_walk.specs.Steps.{StepAnswer}
 use Rattle.patch_converter.proofs.KindsLeft.{KindsLeft, kinds_start, kinds_head, kinds_next, kinds_missing, kinds_end}
 use mathlib.Core.Path.{ap}
-use mathlib.Core.Bool.{not}
 use Rattle.patch_converter.proofs.kinds.has_kinds_left.Goals as goal
 use Rattle.patch_converter.proofs.kinds.has_kinds_left.Goals.{After-has_kind_of, After-next_step}
 
@@ -44,11 +42,11 @@ loop-next-preserved-in-Ok-Head c =
 
 pub returns-then-not-has_kind_of : goal.returns-then-not-has_kind_of
 returns-then-not-has_kind_of c =
-    λ ps h. let l = c.loop-next.invariant ps h in kinds_missing l (seen (goal.at.returns-then-not-has_kind_of c).After-has_kind_of _ l) (asked (goal.at.returns-then-not-has_kind_of c).After-has_kind_of _ l ∙ fails c.has_kind_of.result (ap not c.if-not-has_kind_of.true))
+    λ ps h. let l = c.loop-next.invariant ps h in kinds_missing l (seen (goal.at.returns-then-not-has_kind_of c).After-has_kind_of _ l) (asked (goal.at.returns-then-not-has_kind_of c).After-has_kind_of _ l ∙ c.if-not-has_kind_of.true)
 
 pub loop-next-preserved : goal.loop-next-preserved
 loop-next-preserved c =
-    λ ps h. let l = c.loop-next.invariant ps h in kinds_next l (seen (goal.at.loop-next-preserved c).After-has_kind_of _ l) (asked (goal.at.loop-next-preserved c).After-has_kind_of _ l ∙ not_false_holds c.has_kind_of.result (ap not c.if-not-has_kind_of.false))
+    λ ps h. let l = c.loop-next.invariant ps h in kinds_next l (seen (goal.at.loop-next-preserved c).After-has_kind_of _ l) (asked (goal.at.loop-next-preserved c).After-has_kind_of _ l ∙ c.if-not-has_kind_of.false)
 
 pub returns-in-Ok-End : goal.returns-in-Ok-End
 returns-in-Ok-End c =

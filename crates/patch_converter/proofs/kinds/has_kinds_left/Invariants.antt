@@ -11,12 +11,10 @@ use Rattle.spec_patch.specs.Write.{value_passes}
 use Rattle.spec_conversion.specs.Conversion.{kind_in, all_kinds}
 use Rattle.projection_patch.specs.Meaning.{edition_of}
 use Rattle.projection_patch.specs.ReadAnswers.{lent_from}
-use Rattle.patch_part_writer.proofs.Flags.{fails, not_false_holds}
 use Rattle.patch_walk.specs.Steps.{StepWithin, AtSteps}
 use Rattle.patch_walk.proofs.StepsLaws.{Visited, visited, opened, done, never_refused}
 use Rattle.patch_converter.proofs.KindsLeft.{KindsLeft, kinds_start, kinds_head, kinds_next, kinds_missing, kinds_end}
 use mathlib.Core.Path.{ap}
-use mathlib.Core.Bool.{not}
 use Rattle.patch_converter.proofs.kinds.has_kinds_left.Given as goal
 
 abbrev pub invariant-loop-next : goal.invariant-loop-next

@@ -1,7 +1,7 @@
 -- `set::write_patch_set` meets its contract: the survey refuses, or the output, or the heading and the patches are written.
 -- ---- where the survey passes
 use Prim.Native.Nat.{ℕ, ◌+◌, ◌≤◌}
-use mathlib.Core.Path.{◌≡◌, sym, ap, ◌∙◌}
+use mathlib.Core.Path.{◌≡◌, sym, ap, ap₂, ◌∙◌}
 use mathlib.Core.List.{List, ◌++◌, flat_map}
 use native.Mathlib.Omega.{arith}
 use borrow.Author.Tests.{le-leb, lt-leb}
@@ -20,8 +20,13 @@ use Rattle.patch_part_writer.specs.declared.written.WriteRefusal.{WriteRefusal}
 use Rattle.patch_part_writer.specs.Answer.{written_at, output_at}
 use Rattle.patch_part_writer.specs.ExtentLaws.{length_heading}
 use Rattle.patch_part_writer.proofs.PartsLaws.{PartAnswered, answers_refusal, answers_short, answers_wrote}
-use Rattle.patch_writer.specs.Set.{list_of, patch_set_bytes}
-use Rattle.patch_writer.proofs.CallLaws.{Arrays, few_patches, encode_parts, patches_fit, encode_size, written_read}
+use Rattle.patch_writer.specs.Set.{heads, list_from, list_of, operation_total, used, short_at, inside_at, patch_set_bytes}
+use Rattle.patch_writer.specs.Survey.{HeadsHold}
+use Rattle.patch_writer.proofs.Passes.{list_of_used}
+use Rattle.spec_lists.specs.Lists.{all}
+use Rattle.spec_patch.specs.Patch as model
+use Rattle.std.proofs.Common.{length-take-le}
+use Rattle.patch_writer.proofs.CallLaws.{Arrays, few_patches, few_operations_lem, places_suffice, encode_parts, patches_fit, encode_size, written_read}
 use Rattle.patch_writer.proofs.Verdict.{survey_refused, SurveyWithin, survey_within}
 use Rattle.patch_writer.proofs.set.write_patch_set.Goals as goal
 use Rattle.patch_writer.proofs.set.write_patch_set.Goals.{In_err-operations, In_ok-operations, Start}
@@ -69,16 +74,39 @@ pub store_heading-requires : goal.store_heading-requires
 store_heading-requires c =
     (omega (arith, sized (goal.at.store_heading-requires c).In_ok-operations, c.if-out-bytes.false), few_patches (texts (goal.at.store_heading-requires c).In_ok-operations) (set (goal.at.store_heading-requires c).In_ok-operations) (arrays (goal.at.store_heading-requires c).Start) (surveyed (goal.at.store_heading-requires c).In_ok-operations).fit)
 
+pub shared_ref_as_front-heads : goal.shared_ref_as_front-heads
+shared_ref_as_front-heads c =
+    let e = (goal.at.shared_ref_as_front-heads c).In_ok-operations in
+    few_patches (texts e) (set e) (arrays (goal.at.shared_ref_as_front-heads c).Start) (surveyed e).fit
+
+pub shared_ref_as_front-places : goal.shared_ref_as_front-places
+shared_ref_as_front-places c =
+    let e = (goal.at.shared_ref_as_front-places c).In_ok-operations in
+    let many = arrays (goal.at.shared_ref_as_front-places c).Start in
+    omega (arith, (surveyed e).counted, places_suffice (texts e) (set e) many (surveyed e).fit, many.operations)
+
+-- the places that are lent are those that the heads count, and the list is that of the set
+used_places : (e : In_ok-operations) → take e.in_ok-operations.operations (set e).operations ≡ used (set e)
+used_places e = ap (λ (n : ℕ). take n (set e).operations) (surveyed e).counted
+
+lent_list : (e : In_ok-operations) → list_from (texts e) (heads (set e)) (take e.in_ok-operations.operations (set e).operations) ≡ list_of (texts e) (set e)
+lent_list e = ap (list_from (texts e) (heads (set e))) (used_places e) ∙ list_of_used (texts e) (heads (set e)) (set e).operations
+
+lent_hold : (e : In_ok-operations) → HeadsHold (texts e) (heads (set e)) (take e.in_ok-operations.operations (set e).operations)
+lent_hold e =
+    let it : Arrays e.args.set = record { patches = search (rules, unmapped); operations = search (rules, unmapped) } in
+    record {
+      few = few_operations_lem (texts e) (set e) it (surveyed e).fit;
+      counted = sym (ap length (used_places e) ∙ length-take-le (operation_total (heads (set e))) (set e).operations (places_suffice (texts e) (set e) it (surveyed e).fit));
+      hold = record { short = ap (all short_at) (used_places e) ∙ (surveyed e).short; inside = ap (all (inside_at (texts e))) (used_places e) ∙ (surveyed e).inside };
+    }
+
 pub write_patches-requires : goal.write_patches-requires
 write_patches-requires c =
-    let long = ap length c.store_heading.ensures ∙ length_overwrite c.args.out.now 0 (heading (ed (goal.at.write_patches-requires c).In_ok-operations) ++ u32 (set (goal.at.write_patches-requires c).In_ok-operations).patch_count) in
-    record {
-      counted = (surveyed (goal.at.write_patches-requires c).In_ok-operations).counted;
-      fit = (surveyed (goal.at.write_patches-requires c).In_ok-operations).fit;
-      short = (surveyed (goal.at.write_patches-requires c).In_ok-operations).short;
-      inside = (surveyed (goal.at.write_patches-requires c).In_ok-operations).inside;
-      enough = omega (arith, long, sized (goal.at.write_patches-requires c).In_ok-operations, c.if-out-bytes.false);
-    }
+    let e = (goal.at.write_patches-requires c).In_ok-operations in
+    let long = ap length c.store_heading.ensures ∙ length_overwrite c.args.out.now 0 (heading (ed e) ++ u32 (set e).patch_count) in
+    let many = ap (λ (ps : List model.Patch). length (flat_map encode_patch ps)) (lent_list e) in
+    record { heads = lent_hold e; enough = omega (arith, long, many, sized e, c.if-out-bytes.false) }
 
 -- a refusal of the survey, and the output that is left
 refused : (k : In_err-operations) → PartAnswered k.args.out.now 0 (patch_set_bytes (edition_of k.args.edition) k.args.texts.now k.args.set) (Err k.in_err-operations.field-0.0) k.args.out.now
@@ -95,12 +123,16 @@ returns-in_err-operations-clause-out_after c = (refused (goal.at.returns-in_err-
 
 pub returns : goal.returns
 returns c =
-    let all = let room : 35 + length (body (goal.at.returns c).In_ok-operations) ≤ length c.args.out.now = omega (arith, sized (goal.at.returns c).In_ok-operations, c.if-out-bytes.false) in
+    let e = (goal.at.returns c).In_ok-operations in
+    let room : 35 + length (body e) ≤ length c.args.out.now = omega (arith, sized e, c.if-out-bytes.false) in
+    let lent = ap (flat_map encode_patch) (lent_list e) in
     let all =
     c.write_patches.ensures.out_after
-    ∙ ap (λ (o : List ℕ). overwrite o 35 (body (goal.at.returns c).In_ok-operations)) c.store_heading.ensures
-    ∙ overwrite_append c.args.out.now 0 (heading (ed (goal.at.returns c).In_ok-operations) ++ u32 (set (goal.at.returns c).In_ok-operations).patch_count) (body (goal.at.returns c).In_ok-operations) 35 (length_heading (ed (goal.at.returns c).In_ok-operations) (set (goal.at.returns c).In_ok-operations).patch_count) (omega arith)
-    ∙ ap (overwrite c.args.out.now 0) (sym (encode_parts (texts (goal.at.returns c).In_ok-operations) (set (goal.at.returns c).In_ok-operations) (arrays (goal.at.returns c).Start) (surveyed (goal.at.returns c).In_ok-operations).fit (ed (goal.at.returns c).In_ok-operations))) in
-    let answered = answers_wrote c.args.out.now 0 (surveyed (goal.at.returns c).In_ok-operations).result (35 + length (body (goal.at.returns c).In_ok-operations)) (encoded-size (goal.at.returns c).In_ok-operations ∙ sym (sized (goal.at.returns c).In_ok-operations)) (le-leb (0 + (35 + length (body (goal.at.returns c).In_ok-operations))) (length c.args.out.now) (omega arith)) c.write_patches.new.out all in
-    let position : 35 + length (body (goal.at.returns c).In_ok-operations) ≡ 0 + (35 + length (body (goal.at.returns c).In_ok-operations)) = omega arith in
-    also-read (goal.at.returns c).Start _ _ (ap Ok (c.write_patches.ensures.value ∙ position) ∙ answered.0, answered.1) in record { value = all.0; out_after = all.1.0; by_index = all.1.1 }
+    ∙ ap₂ (λ (o b : List ℕ). overwrite o 35 b) c.store_heading.ensures lent
+    ∙ overwrite_append c.args.out.now 0 (heading (ed e) ++ u32 (set e).patch_count) (body e) 35 (length_heading (ed e) (set e).patch_count) (omega arith)
+    ∙ ap (overwrite c.args.out.now 0) (sym (encode_parts (texts e) (set e) (arrays (goal.at.returns c).Start) (surveyed e).fit (ed e))) in
+    let answered = answers_wrote c.args.out.now 0 (surveyed e).result (35 + length (body e)) (encoded-size e ∙ sym (sized e)) (le-leb (0 + (35 + length (body e))) (length c.args.out.now) (omega arith)) c.write_patches.new.out all in
+    let position : 35 + length (body e) ≡ 0 + (35 + length (body e)) = omega arith in
+    let end = c.write_patches.ensures.value ∙ ap (λ (b : List ℕ). 35 + length b) lent ∙ position in
+    let read = also-read (goal.at.returns c).Start _ _ (ap Ok end ∙ answered.0, answered.1) in
+    record { value = read.0; out_after = read.1.0; by_index = read.1.1 }
