@@ -3,7 +3,6 @@ ghost use Rattle.std.specs.Prelude.{◌≡◌, length};
 ghost use Rattle.spec_page.specs.Page.{page_keys};
 
 use crate::sums;
-use panel_page::PageAnswer;
 use panel_page::rows::PageLookup;
 use panel_rows::values::ValueLookup;
 use shell_player::session::ShellSession;
@@ -38,8 +37,8 @@ fn look_up_singly(table: &[u8], count: usize, keys: &[u64]) -> u64 {
 
 fn look_up_page(table: &[u8], count: usize, keys: &[u64], answers: &mut [u8]) -> u64 {
     match panel_page::collection_page(table, count, 1, keys, answers) {
-        PageAnswer::Answered(n) => n as u64,
-        PageAnswer::Refused(refusal) => refusal.number(),
+        Ok(n) => n as u64,
+        Err(refusal) => refusal.number(),
     }
 }
 

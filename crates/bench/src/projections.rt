@@ -1,7 +1,6 @@
 // The operations of a set on a projection, without a session.
 use crate::sums;
 use local_projection_state::{LocalProjectionState, ProjectionCounts};
-use panel_changes::SetChange;
 use projection_patch::patch::ProjectionPatchEdition;
 
 fn filled(fill: &[u8]) -> LocalProjectionState {
@@ -42,7 +41,7 @@ pub(crate) fn replay_often(fill: &[u8], set: &[u8], times: u64) -> u64 {
             &mut lengths,
             used,
         );
-        if let SetChange::Applied(counts) = change {
+        if let Ok(counts) = change {
             sum = sums::mix(sum, counts.entries as u64);
         }
     }

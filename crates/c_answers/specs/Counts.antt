@@ -1,6 +1,6 @@
 -- What the calls that count or write answer, as three numbers.
 use Rattle.std.specs.Prelude.{Option, Some, None, Result, Ok, Err}
-use Rattle.std.specs.Prelude.{ℕ, Result, Ok, Err}
+use Rattle.std.specs.Prelude.{ℕ}
 use Rattle.panel_print.specs.declared.PrintRefusal.{PrintRefusal}
 use Rattle.spec_patch.specs.Write.{write_number}
 use Rattle.spec_page.specs.Page.{page_number}
@@ -9,8 +9,7 @@ use Rattle.spec_conversion.specs.Conversion.{conversion_number}
 use Rattle.patch_part_writer.specs.Answer.{write_refusal_of}
 use Rattle.patch_part_writer.specs.declared.written.WriteRefusal.{WriteRefusal}
 use Rattle.panel_page.specs.PageTable as page
-use Rattle.panel_page.specs.declared.PageAnswer.{PageAnswer}
-use Rattle.panel_page.specs.declared.PageAnswer.TheVariants as page-answer
+use Rattle.panel_page.specs.declared.PageRefusal.{PageRefusal}
 use Rattle.panel_print.specs.Answers.{print_number}
 use Rattle.patch_import.specs.Answers.{import_refusal_of}
 use Rattle.patch_import.specs.declared.answer.ImportRefusal.{ImportRefusal}
@@ -54,11 +53,11 @@ print_told (Some a) = print_to a
 print_told None = not_counted 3
 
 -- rows written, or 16 or 14
-abbrev pub page_to : PageAnswer → GeysertrayCount
-page_to (page-answer.Answered n) = counted_to n
-page_to (page-answer.Refused f) = refused_to (page_number (page.page_refusal_of f))
+abbrev pub page_to : Result ℕ PageRefusal → GeysertrayCount
+page_to (Ok n) = counted_to n
+page_to (Err f) = refused_to (page_number (page.page_refusal_of f))
 
-abbrev pub page_told : Option PageAnswer → GeysertrayCount
+abbrev pub page_told : Option (Result ℕ PageRefusal) → GeysertrayCount
 page_told (Some a) = page_to a
 page_told None = not_counted 3
 

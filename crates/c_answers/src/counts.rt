@@ -2,7 +2,7 @@
 ghost use Rattle.std.specs.Prelude.{◌≡◌};
 ghost use Rattle.c_answers.specs.Counts.{counted_to, refused_to, not_counted, count_told, written_to, listing_told, print_to, print_told, page_to, page_told, import_told, conversion_told};
 
-use panel_page::PageAnswer;
+use panel_page::PageRefusal;
 use panel_print::PrintRefusal;
 use patch_converter::ConversionRefusal;
 use patch_import::answer::ImportRefusal;
@@ -94,16 +94,16 @@ pub fn print_told(answer: Option<Result<usize, PrintRefusal>>) -> GeysertrayCoun
     }
 }
 
-fn page_to(answer: PageAnswer) -> GeysertrayCount
+fn page_to(answer: Result<usize, PageRefusal>) -> GeysertrayCount
     ensures { result ≡ page_to answer }
 {
     match answer {
-        PageAnswer::Answered(n) => counted(n),
-        PageAnswer::Refused(refusal) => refused(refusal.number()),
+        Ok(n) => counted(n),
+        Err(refusal) => refused(refusal.number()),
     }
 }
 
-pub fn page_told(answer: Option<PageAnswer>) -> GeysertrayCount
+pub fn page_told(answer: Option<Result<usize, PageRefusal>>) -> GeysertrayCount
     ensures { result ≡ page_told answer }
 {
     match answer {

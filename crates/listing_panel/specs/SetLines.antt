@@ -1,4 +1,5 @@
 -- The listing of a set, by what the set does to an empty projection.
+use Rattle.std.specs.Prelude.{Result}
 use Rattle.std.specs.Prelude.{ℕ, ◌≡◌, refl, Bool, true, false, List, if◌then◌else◌}
 use Rattle.std.proofs.Common.{sym, ◌∙◌, arith}
 use Rattle.std.proofs.Math.Path.{ap}
@@ -14,7 +15,7 @@ use Rattle.spec_listing.specs.Listing.{projection_lines, refusal_line, outcome_l
 use Rattle.local_projection_state.specs.Stores.{Stores}
 use Rattle.local_projection_state.specs.declared.LocalProjectionState.{LocalProjectionState}
 use Rattle.panel_application.specs.Application.{SetOutcome, applied, refused, set_outcome, apply_reading, apply_set, outcome_number, SetBecame}
-use Rattle.panel_application.specs.declared.ProjectionOutcome.{ProjectionOutcome}
+use Rattle.panel_application.specs.declared.ProjectionRefusal.{ProjectionRefusal}
 
 -- the lines of what came of a set
 unfoldable pub set_lines : SetOutcome → List ℕ
@@ -78,7 +79,7 @@ pub record ShowsLines (ed : Edition) (set : List ℕ) (next : LocalProjectionSta
   pub stores : Stores next projection
   pub lines : listing ed set ≡ projection_lines projection
 
-module _ (ed : Edition) (set : List ℕ) (next : LocalProjectionState) (o : ProjectionOutcome) (became : SetBecame next o (apply_set ed empty set)) where
+module _ (ed : Edition) (set : List ℕ) (next : LocalProjectionState) (o : Result (Unit {0}) ProjectionRefusal) (became : SetBecame next o (apply_set ed empty set)) where
   pub set_applied : outcome_number o ≡ 0 → ShowsLines ed set next
   unfolding set_lines
   set_applied zero = go (apply_set ed empty set) (listing_applies ed set) (set_numbered ed set) became

@@ -75,8 +75,7 @@ pub fn print_listing(
     let empty = LocalProjectionState::empty();
     let application = panel_application::apply_projection_patch_set(empty, set, edition);
     let state = application.state;
-    let outcome = application.outcome;
-    let number = outcome.number();
+    let number = panel_application::outcome_number(application.outcome);
     if number == 0 {
         return tables::print_projection(out, at, state);
     }

@@ -1,5 +1,5 @@
 -- What a set does to a projection without a session, and what the code answers: 01's readings, patch checks and operations, in this order.
-use Rattle.std.specs.Prelude.{ℕ, ◌≡◌, List, if◌then◌else◌}
+use Rattle.std.specs.Prelude.{ℕ, ◌≡◌, List, if◌then◌else◌, Result, Ok, Err}
 use Rattle.spec_lists.specs.Lists.{is_empty}
 use Rattle.spec_patch.specs.Edition.{Edition}
 use Rattle.spec_patch.specs.Reader.{fault_number}
@@ -11,8 +11,8 @@ use Rattle.projection_patch.specs.ReadAnswers as reading
 use Rattle.local_projection_state.specs.Stores.{Stores}
 use Rattle.local_projection_state.specs.declared.LocalProjectionState.{LocalProjectionState}
 use Rattle.local_projection_state.specs.Faults.{application_fault_of}
-use Rattle.panel_application.specs.declared.ProjectionOutcome.{ProjectionOutcome}
-use Rattle.panel_application.specs.declared.ProjectionOutcome.TheVariants.{Applied, Refused, Findings, Unreadable}
+use Rattle.panel_application.specs.declared.ProjectionRefusal.{ProjectionRefusal}
+use Rattle.panel_application.specs.declared.ProjectionRefusal.TheVariants.{Operation, Findings, Unreadable}
 
 -- the projection afterwards, or the number of the refusal
 pub data SetOutcome : Type 0 where
@@ -33,30 +33,31 @@ apply_set ed p set = apply_reading p (read_set ed set)
 
 -- ---- the answers of the code
 
+unfoldable pub refusal_number : ProjectionRefusal → ℕ
+refusal_number (Operation e) = operation_fault_number (application_fault_of e)
+refusal_number Findings = 11
+refusal_number (Unreadable f) = fault_number (reading.fault_of f)
+
 -- the number of a refusal; 0 says that there is none
-unfoldable pub outcome_number : ProjectionOutcome → ℕ
-outcome_number Applied = 0
-outcome_number (Refused e) = operation_fault_number (application_fault_of e)
-outcome_number Findings = 11
-outcome_number (Unreadable f) = fault_number (reading.fault_of f)
+unfoldable pub outcome_number : Result (Unit {0}) ProjectionRefusal → ℕ
+outcome_number (Ok u) = 0
+outcome_number (Err r) = refusal_number r
 
 -- the answer of steps that were all read
-abbrev pub StepsBecame : LocalProjectionState → ProjectionOutcome → Outcome → Type 0
-StepsBecame next Applied (done q) = Stores next q
-StepsBecame next Applied (stopped f) = ⊥
-StepsBecame next (Refused e) (done q) = ⊥
-StepsBecame next (Refused e) (stopped f) = application_fault_of e ≡ f
-StepsBecame next Findings x = ⊥
-StepsBecame next (Unreadable f) x = ⊥
+abbrev pub StepsBecame : LocalProjectionState → Result (Unit {0}) ProjectionRefusal → Outcome → Type 0
+StepsBecame next (Ok u) (done q) = Stores next q
+StepsBecame next (Ok u) (stopped f) = ⊥
+StepsBecame next (Err (Operation e)) (done q) = ⊥
+StepsBecame next (Err (Operation e)) (stopped f) = application_fault_of e ≡ f
+StepsBecame next (Err Findings) x = ⊥
+StepsBecame next (Err (Unreadable f)) x = ⊥
 
 -- the answer of a set: the next state stores the projection afterwards, or the number is the refusal's
-abbrev pub SetBecame : LocalProjectionState → ProjectionOutcome → SetOutcome → Type 0
-SetBecame next o (applied q) = (o ≡ Applied) × Stores next q
+abbrev pub SetBecame : LocalProjectionState → Result (Unit {0}) ProjectionRefusal → SetOutcome → Type 0
+SetBecame next o (applied q) = (o ≡ Ok tt) × Stores next q
 SetBecame next o (refused n) = outcome_number o ≡ n
 
 -- a refusal hands back the state that came in
-abbrev pub StateKeptUnlessApplied : LocalProjectionState → LocalProjectionState → ProjectionOutcome → Type 0
-StateKeptUnlessApplied state next Applied = Unit {0}
-StateKeptUnlessApplied state next (Refused e) = next ≡ state
-StateKeptUnlessApplied state next Findings = next ≡ state
-StateKeptUnlessApplied state next (Unreadable f) = next ≡ state
+abbrev pub StateKeptUnlessApplied : LocalProjectionState → LocalProjectionState → Result (Unit {0}) ProjectionRefusal → Type 0
+StateKeptUnlessApplied state next (Ok u) = Unit {0}
+StateKeptUnlessApplied state next (Err r) = next ≡ state

@@ -1,6 +1,6 @@
 -- Laws of what a set does: the refusals' numbers, and what the quick check decides.
-use Rattle.std.specs.Prelude.{ℕ, Bool, List, [], ◌∷◌, eqb, length, if◌then◌else◌}
 use Rattle.std.specs.Prelude as code
+use Rattle.std.specs.Prelude.{ℕ, Bool, List, [], ◌∷◌, eqb, length, if◌then◌else◌}
 use Rattle.std.proofs.Math.Path.{◌≡◌, refl, ap, subst}
 use Rattle.std.proofs.Common.{sym, ◌∙◌, arith}
 use Rattle.std.proofs.Math.Bool.{true, false, not}
@@ -23,29 +23,29 @@ use Rattle.check_quick.specs.declared.quick_set.QuickCheck.TheVariants as quick
 use Rattle.patch_sets.specs.SetAnswers.{operation_count_lem}
 use Rattle.local_projection_state.specs.declared.LocalProjectionState.{LocalProjectionState}
 use Rattle.local_projection_state.specs.declared.LocalProjectionApplicationError.TheVariants.{KeyRule, ProjectionFull}
-use Rattle.panel_application.specs.Application.{refused, set_outcome, apply_reading, apply_set, outcome_number, StepsBecame, SetBecame}
-use Rattle.panel_application.specs.declared.ProjectionOutcome.{ProjectionOutcome}
-use Rattle.panel_application.specs.declared.ProjectionOutcome.TheVariants.{Applied, Refused, Findings, Unreadable}
+use Rattle.panel_application.specs.Application.{refused, set_outcome, apply_reading, apply_set, refusal_number, outcome_number, StepsBecame, SetBecame}
+use Rattle.panel_application.specs.declared.ProjectionRefusal.{ProjectionRefusal}
+use Rattle.panel_application.specs.declared.ProjectionRefusal.TheVariants.{Operation, Findings, Unreadable}
 
 -- the numbers of this call
-pub outcome_numbers : (o : ProjectionOutcome) → any (eqb (outcome_number o)) (0 ∷ 8 ∷ 9 ∷ 10 ∷ 11 ∷ 12 ∷ []) ≡ true
-unfolding outcome_number operation_fault_number fault_number
-outcome_numbers Applied = refl
-outcome_numbers (Refused KeyRule) = refl
-outcome_numbers (Refused ProjectionFull) = refl
-outcome_numbers Findings = refl
-outcome_numbers (Unreadable Malformed) = refl
-outcome_numbers (Unreadable OverCapacity) = refl
+pub outcome_numbers : (o : code.Result (Unit {0}) ProjectionRefusal) → any (eqb (outcome_number o)) (0 ∷ 8 ∷ 9 ∷ 10 ∷ 11 ∷ 12 ∷ []) ≡ true
+unfolding outcome_number refusal_number operation_fault_number fault_number
+outcome_numbers (code.Ok u) = refl
+outcome_numbers (code.Err (Operation KeyRule)) = refl
+outcome_numbers (code.Err (Operation ProjectionFull)) = refl
+outcome_numbers (code.Err Findings) = refl
+outcome_numbers (code.Err (Unreadable Malformed)) = refl
+outcome_numbers (code.Err (Unreadable OverCapacity)) = refl
 
 -- the answer of the steps is the answer of the set
-steps_set : (next : LocalProjectionState) (o : ProjectionOutcome) (x : Outcome) → StepsBecame next o x → SetBecame next o (set_outcome x)
-unfolding set_outcome outcome_number
-steps_set next Applied (done q) h = (refl, h)
-steps_set next Applied (stopped f) h = absurd h
-steps_set next (Refused e) (done q) h = absurd h
-steps_set next (Refused e) (stopped f) h = ap operation_fault_number h
-steps_set next Findings x h = absurd h
-steps_set next (Unreadable f) x h = absurd h
+steps_set : (next : LocalProjectionState) (o : code.Result (Unit {0}) ProjectionRefusal) (x : Outcome) → StepsBecame next o x → SetBecame next o (set_outcome x)
+unfolding set_outcome outcome_number refusal_number
+steps_set next (code.Ok u) (done q) h = (refl, h)
+steps_set next (code.Ok u) (stopped f) h = absurd h
+steps_set next (code.Err (Operation e)) (done q) h = absurd h
+steps_set next (code.Err (Operation e)) (stopped f) h = ap operation_fault_number h
+steps_set next (code.Err Findings) x h = absurd h
+steps_set next (code.Err (Unreadable f)) x h = absurd h
 
 -- ---- by the quick check's answer
 
@@ -86,16 +86,16 @@ module _ (p : Projection) where
       go false e = absurd (let z : ◌≡◌ {A = ℕ} 0 1 = cc in omega arith)
 
   module _ (ed : Edition) (set : List ℕ) (c : code.Result QuickCheck ProjectionPatchReadFault) (answer_is : c ≡ quick_answer (read_set ed set)) (next : LocalProjectionState) where
-    pub clean_became : (n m : ℕ) → c ≡ code.Ok (quick.Clean n m) → (o : ProjectionOutcome) → ((ps : List Patch) → read_set ed set ≡ patches ps → StepsBecame next o (apply_steps p (replay_steps ps))) → SetBecame next o (apply_set ed p set)
+    pub clean_became : (n m : ℕ) → c ≡ code.Ok (quick.Clean n m) → (o : code.Result (Unit {0}) ProjectionRefusal) → ((ps : List Patch) → read_set ed set ≡ patches ps → StepsBecame next o (apply_steps p (replay_steps ps))) → SetBecame next o (apply_set ed p set)
     unfolding apply_set
     clean_became n m e o told =
         let k = clean_reading (read_set ed set) n m (sym e ∙ answer_is) in
         subst (SetBecame next o) (sym k.outcome) (steps_set next o (apply_steps p (replay_steps k.ps)) (told k.ps k.readable))
 
-    pub found_became : c ≡ code.Ok quick.Found → SetBecame next Findings (apply_set ed p set)
-    unfolding apply_set outcome_number
-    found_became e = subst (SetBecame next Findings) (sym (found_reading (read_set ed set) (sym e ∙ answer_is))) refl
+    pub found_became : c ≡ code.Ok quick.Found → SetBecame next (code.Err Findings) (apply_set ed p set)
+    unfolding apply_set outcome_number refusal_number
+    found_became e = subst (SetBecame next (code.Err Findings)) (sym (found_reading (read_set ed set) (sym e ∙ answer_is))) refl
 
-    pub refused_became : (f : ProjectionPatchReadFault) → c ≡ code.Err f → SetBecame next (Unreadable f) (apply_set ed p set)
-    unfolding apply_set outcome_number
-    refused_became f e = subst (SetBecame next (Unreadable f)) (sym (refused_reading (read_set ed set) f (sym e ∙ answer_is))) refl
+    pub refused_became : (f : ProjectionPatchReadFault) → c ≡ code.Err f → SetBecame next (code.Err (Unreadable f)) (apply_set ed p set)
+    unfolding apply_set outcome_number refusal_number
+    refused_became f e = subst (SetBecame next (code.Err (Unreadable f))) (sym (refused_reading (read_set ed set) f (sym e ∙ answer_is))) refl

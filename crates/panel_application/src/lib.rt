@@ -8,45 +8,52 @@ ghost use Rattle.spec_projection.specs.Projection.{Projection};
 ghost use Rattle.spec_projection.specs.Apply.{replay_steps, apply_steps};
 ghost use Rattle.projection_patch.specs.Meaning.{edition_of};
 ghost use Rattle.local_projection_state.specs.Stores.{Stores};
-ghost use Rattle.panel_application.specs.Application.{apply_set, outcome_number, StepsBecame, SetBecame, StateKeptUnlessApplied};
+ghost use Rattle.panel_application.specs.Application.{apply_set, refusal_number, outcome_number, StepsBecame, SetBecame, StateKeptUnlessApplied};
 
 use check_quick::quick_set;
 use check_quick::quick_set::QuickCheck;
 use local_projection_state::{
     LocalProjectionApplicationError, LocalProjectionState, ProjectionCounts,
 };
-use panel_changes::SetChange;
+use panel_changes::SetRefusal;
 use projection_patch::patch::ProjectionPatchEdition;
 use projection_patch::read_values::ProjectionPatchReadFault;
 
-// Why a set is not applied, or that it is.
-#[derive(Drop)]
-pub enum ProjectionOutcome {
-    Applied,
-    Refused(LocalProjectionApplicationError),
+// Why a set is not applied.
+#[derive(Clone, Copy)]
+pub enum ProjectionRefusal {
+    Operation(LocalProjectionApplicationError),
     Findings,
     Unreadable(ProjectionPatchReadFault),
 }
 
-impl ProjectionOutcome {
-    // The number of a refusal; 0 says that there is none.
+impl ProjectionRefusal {
     pub fn number(self) -> u64
-        ensures { result ≡ outcome_number self }
+        ensures { result ≡ refusal_number self }
     {
         match self {
-            ProjectionOutcome::Applied => 0,
-            ProjectionOutcome::Refused(error) => error.number(),
-            ProjectionOutcome::Findings => 11,
-            ProjectionOutcome::Unreadable(fault) => fault.number(),
+            ProjectionRefusal::Operation(error) => error.number(),
+            ProjectionRefusal::Findings => 11,
+            ProjectionRefusal::Unreadable(fault) => fault.number(),
         }
     }
 }
 
-// The state afterwards, and what came of the set.
+// The state afterwards, which is the one before where the set was refused.
 #[derive(Drop)]
 pub struct ProjectionApplication {
     pub state: LocalProjectionState,
-    pub outcome: ProjectionOutcome,
+    pub outcome: Result<(), ProjectionRefusal>,
+}
+
+// The number of a refusal; 0 says that there is none.
+pub fn outcome_number(outcome: Result<(), ProjectionRefusal>) -> u64
+    ensures { result ≡ outcome_number outcome }
+{
+    match outcome {
+        Ok(()) => 0,
+        Err(refusal) => refusal.number(),
+    }
 }
 
 // The state of these tables.
@@ -96,21 +103,23 @@ fn apply_readable(
         &mut lengths,
         used,
     ) {
-        SetChange::Applied(counts) => ProjectionApplication {
+        Ok(counts) => ProjectionApplication {
             state: state_of(counts, bindings, availability, entries, lengths),
-            outcome: ProjectionOutcome::Applied,
+            outcome: Ok(()),
         },
-        SetChange::Refused(error) => ProjectionApplication {
-            state,
-            outcome: ProjectionOutcome::Refused(error),
-        },
-        SetChange::Unreadable(fault) => ProjectionApplication {
-            state,
-            outcome: ProjectionOutcome::Unreadable(fault),
-        },
-        SetChange::BadTables => ProjectionApplication {
-            state,
-            outcome: ProjectionOutcome::Unreadable(ProjectionPatchReadFault::Malformed),
+        Err(refused) => match refused {
+            SetRefusal::Operation(error) => ProjectionApplication {
+                state,
+                outcome: Err(ProjectionRefusal::Operation(error)),
+            },
+            SetRefusal::Unreadable(fault) => ProjectionApplication {
+                state,
+                outcome: Err(ProjectionRefusal::Unreadable(fault)),
+            },
+            SetRefusal::BadTables => ProjectionApplication {
+                state,
+                outcome: Err(ProjectionRefusal::Unreadable(ProjectionPatchReadFault::Malformed)),
+            },
         },
     }
 }
@@ -128,11 +137,11 @@ pub fn apply_projection_patch_set(
         Ok(QuickCheck::Clean { .. }) => apply_readable(state, set, edition),
         Ok(QuickCheck::Found) => ProjectionApplication {
             state,
-            outcome: ProjectionOutcome::Findings,
+            outcome: Err(ProjectionRefusal::Findings),
         },
         Err(fault) => ProjectionApplication {
             state,
-            outcome: ProjectionOutcome::Unreadable(fault),
+            outcome: Err(ProjectionRefusal::Unreadable(fault)),
         },
     }
 }

@@ -1,5 +1,5 @@
 -- Tables whose rows are cleared have none, and a plan starts in tables that have none.
-use Rattle.std.specs.Prelude.{ℕ, ◌+◌, ◌-◌, ◌*◌, ◌≤◌, ◌≡◌, refl, List, [], ◌++◌, length, drop}
+use Rattle.std.specs.Prelude.{ℕ, ◌+◌, ◌-◌, ◌*◌, ◌≤◌, ◌≡◌, refl, List, [], ◌++◌, length, drop, Result, Err}
 use Rattle.std.proofs.Common.{sym, ap, subst, ◌∙◌, mul-le-mul_right, arith}
 use Rattle.std.proofs.lemmas.List.{replicate-append-replicate}
 use Rattle.spec_patch.specs.Sizes.{projection_bindings, projection_entries}
@@ -12,8 +12,8 @@ use Rattle.panel_plan.specs.PlanRows.{planned_binding_row, planned_binding_width
 use Rattle.patch_walk.specs.declared.SetCursor.{SetCursor}
 use Rattle.local_projection_state.specs.declared.LocalProjectionApplicationError.{LocalProjectionApplicationError}
 use Rattle.panel_steps.specs.Runs.{RunWalked}
-use Rattle.panel_steps.specs.declared.PlanRun.{PlanRun}
-use Rattle.panel_steps.specs.declared.PlanRun.TheVariants as plan
+use Rattle.panel_steps.specs.declared.PlanStop.{PlanStop}
+use Rattle.panel_steps.specs.declared.PlanStop.TheVariants as plan
 use Rattle.panel_writing.specs.Writing.{ClearBehind}
 use Rattle.panel_changes.specs.PlanMemory.{PlanTables, ClearPlan, no_plan}
 use Rattle.panel_changes.specs.SetChangesLaws.{none_stored}
@@ -41,10 +41,10 @@ pub stored_room : {A : Type 0} {row : A → List ℕ} {width capacity count : �
 stored_room {width = width} {capacity = capacity} {count = count} s few = omega (arith, s.size, mul-le-mul_right {m = count} {n = capacity} width few)
 
 -- a run that was refused left the rows of a plan
-module _ (P : ProjectionCounts → Projection → Type 0) (H : SetCursor → Halt Projection → Type 0) {r : PlanRun} (w : Walk Projection) (h : RunWalked P H r w) where
-  pub run_held : (f : LocalProjectionApplicationError) (c : SetCursor) (n : ProjectionCounts) → r ≡ plan.Refused f c n → (q : Projection) × P n q
-  run_held f c n is = go w (subst (λ (z : PlanRun). RunWalked P H z w) is h)
+module _ (P : ProjectionCounts → Projection → Type 0) (H : SetCursor → Halt Projection → Type 0) {r : Result ProjectionCounts PlanStop} (w : Walk Projection) (h : RunWalked P H r w) where
+  pub run_held : (f : LocalProjectionApplicationError) (c : SetCursor) (n : ProjectionCounts) → r ≡ Err (plan.Refused f c n) → (q : Projection) × P n q
+  run_held f c n is = go w (subst (λ (z : Result ProjectionCounts PlanStop). RunWalked P H z w) is h)
     where
-      go : (y : Walk Projection) → RunWalked P H (plan.Refused f c n) y → (q : Projection) × P n q
+      go : (y : Walk Projection) → RunWalked P H (Err (plan.Refused f c n)) y → (q : Projection) × P n q
       go (through q) none = absurd none
       go (halted x) left = (x.left, left.0)

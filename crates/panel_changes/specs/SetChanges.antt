@@ -1,5 +1,5 @@
 -- What a set makes of the tables, and what the code answers.
-use Rattle.std.specs.Prelude.{ℕ, ◌≡◌, Bool, true, ◌&&◌, List, leb, eqb, length}
+use Rattle.std.specs.Prelude.{ℕ, ◌≡◌, Bool, true, ◌&&◌, List, leb, eqb, length, Result, Ok, Err}
 use Rattle.spec_patch.specs.Sizes.{projection_bindings, projection_availabilities, projection_entries}
 use Rattle.spec_projection.specs.Projection.{Projection}
 use Rattle.spec_projection.specs.Apply.{Outcome, done, stopped}
@@ -9,8 +9,8 @@ use Rattle.local_projection_state.specs.Stores.{StoredTables, StoredLengths}
 use Rattle.local_projection_state.specs.declared.ProjectionCounts.{ProjectionCounts}
 use Rattle.local_projection_state.specs.Faults.{application_fault_of}
 use Rattle.panel_writing.specs.Writing.{ClearBehind}
-use Rattle.panel_changes.specs.declared.SetChange.{SetChange}
-use Rattle.panel_changes.specs.declared.SetChange.TheVariants.{Applied, Refused, Unreadable, BadTables}
+use Rattle.panel_changes.specs.declared.SetRefusal.{SetRefusal}
+use Rattle.panel_changes.specs.declared.SetRefusal.TheVariants.{Operation, Unreadable, BadTables}
 
 -- so many bytes are the lengths of the three tables
 unfoldable pub tables_fit : ℕ → ℕ → ℕ → Bool
@@ -45,20 +45,18 @@ abbrev pub StoredAfter : ProjectionCounts → (b a e l : List ℕ) → Projectio
 StoredAfter n b a e l q = StoredTables n b a e q × StoredLengths l (collection_lengths q)
 
 -- the answer is the outcome's: with these counts the tables store the next projection, or the refusal is the fault's
-abbrev pub ChangeBecame : (ProjectionCounts → Projection → Type 0) → SetChange → Outcome → Type 0
-ChangeBecame Next (Applied n) (done q) = Next n q
-ChangeBecame Next (Applied n) (stopped f) = ⊥
-ChangeBecame Next (Refused e) (done q) = ⊥
-ChangeBecame Next (Refused e) (stopped f) = application_fault_of e ≡ f
-ChangeBecame Next (Unreadable f) x = ⊥
-ChangeBecame Next BadTables x = ⊥
+abbrev pub ChangeBecame : (ProjectionCounts → Projection → Type 0) → Result ProjectionCounts SetRefusal → Outcome → Type 0
+ChangeBecame Next (Ok n) (done q) = Next n q
+ChangeBecame Next (Ok n) (stopped f) = ⊥
+ChangeBecame Next (Err (Operation e)) (done q) = ⊥
+ChangeBecame Next (Err (Operation e)) (stopped f) = application_fault_of e ≡ f
+ChangeBecame Next (Err (Unreadable f)) x = ⊥
+ChangeBecame Next (Err BadTables) x = ⊥
 
 -- a set that is not applied leaves the tables that it was to be written to
 abbrev pub Same : (b a e l b' a' e' l' : List ℕ) → Type 0
 Same b a e l b' a' e' l' = (b' ≡ b) × ((a' ≡ a) × ((e' ≡ e) × (l' ≡ l)))
 
-abbrev pub TablesKeptUnlessApplied : SetChange → (b a e l b' a' e' l' : List ℕ) → Type 0
-TablesKeptUnlessApplied (Applied n) b a e l b' a' e' l' = Unit {0}
-TablesKeptUnlessApplied (Refused f) b a e l b' a' e' l' = Same b a e l b' a' e' l'
-TablesKeptUnlessApplied (Unreadable f) b a e l b' a' e' l' = Same b a e l b' a' e' l'
-TablesKeptUnlessApplied BadTables b a e l b' a' e' l' = Same b a e l b' a' e' l'
+abbrev pub TablesKeptUnlessApplied : Result ProjectionCounts SetRefusal → (b a e l b' a' e' l' : List ℕ) → Type 0
+TablesKeptUnlessApplied (Ok n) b a e l b' a' e' l' = Unit {0}
+TablesKeptUnlessApplied (Err f) b a e l b' a' e' l' = Same b a e l b' a' e' l'

@@ -33,14 +33,14 @@ use Rattle.panel_plan.specs.PlanRows.{PlannedBindings, PlannedEntries, StoredPla
 use Rattle.panel_plan.specs.Resolved.{Resolution, resolving, resolved}
 use Rattle.panel_plan.proofs.ResolvedLaws.{resolving_keeps}
 use Rattle.panel_steps.specs.Runs.{RunBecame}
-use Rattle.panel_steps.specs.declared.PlanRun.{PlanRun}
-use Rattle.panel_steps.specs.declared.PlanRun.TheVariants as plan
+use Rattle.panel_steps.specs.declared.PlanStop.{PlanStop}
+use Rattle.panel_steps.specs.declared.PlanStop.TheVariants as plan
 use Rattle.local_projection_state.specs.declared.LocalProjectionApplicationError.{LocalProjectionApplicationError}
 use Rattle.projection_patch.specs.declared.read_values.ProjectionPatchReadFault.{ProjectionPatchReadFault}
 use Rattle.panel_writing.specs.Writing.{ClearBehind}
 use Rattle.panel_writing.specs.WritingLaws.{clear_behind_more, rows_clear}
 use Rattle.panel_changes.specs.SetChanges.{tables_fit, change_counts_fit, TableLengths, none_used, ReadyTables, StoredAfter, ChangeBecame}
-use Rattle.panel_changes.specs.declared.SetChange.TheVariants as change
+use Rattle.panel_changes.specs.declared.SetRefusal.TheVariants as change
 
 -- ---- lengths and counts
 
@@ -188,28 +188,28 @@ opened_short ed set c e = go (leb (length set) set_bytes) refl e
 
 -- ---- what came of a run
 
-module _ (P Next : ProjectionCounts → Projection → Type 0) {r : PlanRun} (x : Outcome) (h : RunBecame P r x) where
-  pub run_planned : (n : ProjectionCounts) → r ≡ plan.Planned n → ((q : Projection) → x ≡ done q → P n q → Next n q) → ChangeBecame Next (change.Applied n) x
+module _ (P Next : ProjectionCounts → Projection → Type 0) {r : code.Result ProjectionCounts PlanStop} (x : Outcome) (h : RunBecame P r x) where
+  pub run_planned : (n : ProjectionCounts) → r ≡ code.Ok n → ((q : Projection) → x ≡ done q → P n q → Next n q) → ChangeBecame Next (code.Ok n) x
   run_planned n is made = go x refl (subst (λ z. RunBecame P z x) is h)
     where
-      go : (y : Outcome) → x ≡ y → RunBecame P (plan.Planned n) y → ChangeBecame Next (change.Applied n) y
+      go : (y : Outcome) → x ≡ y → RunBecame P (code.Ok n) y → ChangeBecame Next (code.Ok n) y
       go (done q) e k = made q e k
       go (stopped f) e k = k
 
-  pub run_refused : (f : LocalProjectionApplicationError) {c : SetCursor} {n : ProjectionCounts} → r ≡ plan.Refused f c n → ChangeBecame Next (change.Refused f) x
+  pub run_refused : (f : LocalProjectionApplicationError) {c : SetCursor} {n : ProjectionCounts} → r ≡ code.Err (plan.Refused f c n) → ChangeBecame Next (code.Err (change.Operation f)) x
   run_refused f {c} {n} is = go x (subst (λ z. RunBecame P z x) is h)
     where
-      go : (y : Outcome) → RunBecame P (plan.Refused f c n) y → ChangeBecame Next (change.Refused f) y
+      go : (y : Outcome) → RunBecame P (code.Err (plan.Refused f c n)) y → ChangeBecame Next (code.Err (change.Operation f)) y
       go (done q) k = k
       go (stopped g) k = k
 
-  pub run_reads : (f : ProjectionPatchReadFault) → r ≡ plan.Unreadable f → ⊥
+  pub run_reads : (f : ProjectionPatchReadFault) → r ≡ code.Err (plan.Unreadable f) → ⊥
   run_reads f is = subst (λ z. RunBecame P z x) is h
 
   -- a run that ended has left a plan
-  pub run_left : (n : ProjectionCounts) → r ≡ plan.Planned n → (q : Projection) × P n q
+  pub run_left : (n : ProjectionCounts) → r ≡ code.Ok n → (q : Projection) × P n q
   run_left n is = go x (subst (λ z. RunBecame P z x) is h)
     where
-      go : (y : Outcome) → RunBecame P (plan.Planned n) y → (q : Projection) × P n q
+      go : (y : Outcome) → RunBecame P (code.Ok n) y → (q : Projection) × P n q
       go (done q) k = (q, k)
       go (stopped f) k = absurd k

@@ -19,6 +19,7 @@ ghost use Rattle.panel_rows.specs.Rows.{availability_bytes, length_bytes};
 ghost use Rattle.local_projection_state.specs.Stores.{StoredTables};
 ghost use Rattle.panel_steps.specs.Runs.{PlannedAs, RunTold};
 ghost use Rattle.panel_changes.specs.PlanMemory.{plan_in, ClearPlan};
+ghost use Rattle.panel_changes.specs.declared.SetRefusal.TheVariants.{Unreadable};
 ghost use Rattle.panel_changes.specs.SetChanges.{tables_fit, change_counts_fit, TableLengths, none_used, ReadyTables, StoredAfter, ChangeBecame, TablesKeptUnlessApplied};
 
 use local_projection_state::{
@@ -26,45 +27,43 @@ use local_projection_state::{
 };
 use panel_lengths::write;
 use panel_plan::fill;
-use panel_steps::PlanRun;
+use panel_steps::PlanStop;
 use patch_walk::SetCursor;
 use projection_patch::patch::ProjectionPatchEdition;
 use projection_patch::read_values::ProjectionPatchReadFault;
 
-// How many rows each new table has, or why the set is not applied: BadTables is a table of another length, or a count over its
-// capacity.
+// Why a set is not applied: BadTables is a table of another length, or a count over its capacity.
 #[derive(Clone, Copy)]
-pub enum SetChange {
-    Applied(ProjectionCounts),
-    Refused(LocalProjectionApplicationError),
+pub enum SetRefusal {
+    Operation(LocalProjectionApplicationError),
     Unreadable(ProjectionPatchReadFault),
     BadTables,
+}
+
+impl From<ProjectionPatchReadFault> for SetRefusal {
+    ghost from_gives = { λ fault refusal. refusal ≡ Unreadable fault };
+
+    fn from(fault: ProjectionPatchReadFault) -> SetRefusal {
+        SetRefusal::Unreadable(fault)
+    }
 }
 
 // Whether so many bytes are the lengths of the three tables.
 pub fn tables_fit(bindings: usize, availability: usize, entries: usize) -> bool
     ensures { result ≡ tables_fit bindings availability entries }
 {
-    if bindings != LocalProjectionState::BINDING_BYTES {
-        return false;
-    }
-    if availability != LocalProjectionState::AVAILABILITY_BYTES {
-        return false;
-    }
-    entries == LocalProjectionState::ENTRY_BYTES
+    bindings == LocalProjectionState::BINDING_BYTES
+        && availability == LocalProjectionState::AVAILABILITY_BYTES
+        && entries == LocalProjectionState::ENTRY_BYTES
 }
 
 // Whether each table has a place for so many rows.
 pub fn counts_fit(counts: ProjectionCounts) -> bool
     ensures { result ≡ change_counts_fit counts }
 {
-    if LocalProjectionState::BINDINGS < counts.bindings {
-        return false;
-    }
-    if LocalProjectionState::AVAILABILITIES < counts.availabilities {
-        return false;
-    }
-    counts.entries <= LocalProjectionState::ENTRIES
+    counts.bindings <= LocalProjectionState::BINDINGS
+        && counts.availabilities <= LocalProjectionState::AVAILABILITIES
+        && counts.entries <= LocalProjectionState::ENTRIES
 }
 
 // Whether the lengths of the tables that are read and of those that are written fit, and the counts.
@@ -80,14 +79,10 @@ fn arguments_fit(
 ) -> bool
     ensures { result ≡ (tables_fit from_bindings from_availability from_entries && (tables_fit to_bindings to_availability to_entries && (change_counts_fit counts && change_counts_fit used))) }
 {
-    if tables_fit(from_bindings, from_availability, from_entries) {
-        if tables_fit(to_bindings, to_availability, to_entries) {
-            if counts_fit(counts) {
-                return counts_fit(used);
-            }
-        }
-    }
-    false
+    tables_fit(from_bindings, from_availability, from_entries)
+        && tables_fit(to_bindings, to_availability, to_entries)
+        && counts_fit(counts)
+        && counts_fit(used)
 }
 
 // Writes the tables that a plan stands for, unless it has more rows than they have places.
@@ -156,7 +151,7 @@ fn plan_set(
     bindings: &mut [u8; panel_plan::BINDING_BYTES],
     availability: &mut [u8; LocalProjectionState::AVAILABILITY_BYTES],
     entries: &mut [u8; panel_plan::ENTRY_BYTES],
-) -> PlanRun
+) -> Result<ProjectionCounts, PlanStop>
     requires { (length set.now ≤ set_bytes) × ((length from_availability.now ≡ availability_bytes) × (change_counts_fit counts ≡ true)) }
     ensures { (p : Projection) (ps : List Patch) → StoredTables counts from_bindings.now from_availability.now from_entries.now p
         → ClearPlan (plan_in bindings.old availability.old entries.old) → AtSteps (edition_of edition) set.now cursor [] ps
@@ -194,7 +189,7 @@ fn apply_from(
     plan_bindings: &mut [u8; panel_plan::BINDING_BYTES],
     plan_availability: &mut [u8; LocalProjectionState::AVAILABILITY_BYTES],
     plan_entries: &mut [u8; panel_plan::ENTRY_BYTES],
-) -> SetChange
+) -> Result<ProjectionCounts, SetRefusal>
     requires { (length set.now ≤ set_bytes) × ((length from_availability.now ≡ availability_bytes) × (TableLengths to_bindings.old to_availability.old to_entries.old × ((length to_lengths.old ≡ length_bytes) × ((change_counts_fit used ≡ true) × (change_counts_fit counts ≡ true))))) }
     ensures changed { (p : Projection) (ps : List Patch) → StoredTables counts from_bindings.now from_availability.now from_entries.now p
         → All (FitsPatch (edition_of edition)) ps → AtSteps (edition_of edition) set.now cursor [] ps → ReadyTables used to_bindings.old to_availability.old to_entries.old to_lengths.old
@@ -217,7 +212,7 @@ fn apply_from(
         plan_availability,
         plan_entries,
     ) {
-        PlanRun::Planned(n) => {
+        Ok(n) => {
             let written = write_tables(
                 plan_bindings,
                 plan_availability,
@@ -235,16 +230,18 @@ fn apply_from(
             );
             memory::clear_plan(plan_bindings, plan_availability, plan_entries, n);
             if written {
-                SetChange::Applied(n)
+                Ok(n)
             } else {
-                SetChange::BadTables
+                Err(SetRefusal::BadTables)
             }
         }
-        PlanRun::Refused(error, _, held) => {
-            memory::clear_plan(plan_bindings, plan_availability, plan_entries, held);
-            SetChange::Refused(error)
-        }
-        PlanRun::Unreadable(fault) => SetChange::Unreadable(fault),
+        Err(stop) => match stop {
+            PlanStop::Refused { error, held, .. } => {
+                memory::clear_plan(plan_bindings, plan_availability, plan_entries, held);
+                Err(SetRefusal::Operation(error))
+            }
+            PlanStop::Unreadable(fault) => Err(SetRefusal::Unreadable(fault)),
+        },
     }
 }
 
@@ -277,7 +274,7 @@ pub fn apply_set_with_plan<'a>(
     plan_bindings: &mut [u8; panel_plan::BINDING_BYTES],
     plan_availability: &mut [u8; LocalProjectionState::AVAILABILITY_BYTES],
     plan_entries: &mut [u8; panel_plan::ENTRY_BYTES],
-) -> SetChange
+) -> Result<ProjectionCounts, SetRefusal>
     ensures changed { (p : Projection) (ps : List Patch) → StoredTables counts from_bindings.now from_availability.now from_entries.now p
         → read_set (edition_of edition) set.now ≡ patches ps → ReadyTables used to_bindings.old to_availability.old to_entries.old to_lengths.old
         → ClearPlan (plan_in plan_bindings.old plan_availability.old plan_entries.old)
@@ -288,9 +285,9 @@ pub fn apply_set_with_plan<'a>(
         → ClearPlan (plan_in plan_bindings.new plan_availability.new plan_entries.new) }
 {
     if to_lengths.len() != LocalProjectionState::LENGTH_BYTES {
-        return SetChange::BadTables;
+        return Err(SetRefusal::BadTables);
     }
-    if arguments_fit(
+    if !arguments_fit(
         from_bindings.len(),
         from_availability.len(),
         from_entries.len(),
@@ -300,29 +297,26 @@ pub fn apply_set_with_plan<'a>(
         counts,
         used,
     ) {
-        match patch_walk::open_set(set, edition) {
-            Ok(cursor) => apply_from(
-                from_bindings,
-                from_availability,
-                from_entries,
-                counts,
-                set,
-                edition,
-                cursor,
-                to_bindings,
-                to_availability,
-                to_entries,
-                to_lengths,
-                used,
-                plan_bindings,
-                plan_availability,
-                plan_entries,
-            ),
-            Err(fault) => SetChange::Unreadable(fault),
-        }
-    } else {
-        SetChange::BadTables
+        return Err(SetRefusal::BadTables);
     }
+    let cursor = patch_walk::open_set(set, edition)?;
+    apply_from(
+        from_bindings,
+        from_availability,
+        from_entries,
+        counts,
+        set,
+        edition,
+        cursor,
+        to_bindings,
+        to_availability,
+        to_entries,
+        to_lengths,
+        used,
+        plan_bindings,
+        plan_availability,
+        plan_entries,
+    )
 }
 
 // The same, in a plan of its own.
@@ -338,7 +332,7 @@ pub fn apply_set<'a>(
     to_entries: &mut [u8],
     to_lengths: &mut [u8],
     used: ProjectionCounts,
-) -> SetChange
+) -> Result<ProjectionCounts, SetRefusal>
     ensures changed { (p : Projection) (ps : List Patch) → StoredTables counts from_bindings.now from_availability.now from_entries.now p
         → read_set (edition_of edition) set.now ≡ patches ps → ReadyTables used to_bindings.old to_availability.old to_entries.old to_lengths.old
         → ChangeBecame (λ n q. StoredAfter n to_bindings.new to_availability.new to_entries.new to_lengths.new q) result (apply_steps p (replay_steps ps)) }

@@ -1,4 +1,5 @@
 -- The answer table of a page in bytes: one row of fixed width for each key, and what the call answers.
+use Rattle.std.specs.Prelude as code
 use Rattle.std.specs.Prelude.{ℕ, ◌+◌, ◌*◌, ◌≡◌, drop}
 use mathlib.Core.List.{List, ◌∷◌, ◌++◌, map, flatten}
 use Rattle.std.proofs.Math.Option.{Option, none, some}
@@ -12,8 +13,6 @@ use Rattle.panel_rows.specs.Rows.{mark_width, value_width, padded}
 use Rattle.panel_rows.specs.Lookup.{no_value, found_value}
 use Rattle.panel_page.specs.declared.PageRefusal.{PageRefusal}
 use Rattle.panel_page.specs.declared.PageRefusal.TheVariants.{TooManyKeys, TooFewPlaces}
-use Rattle.panel_page.specs.declared.PageAnswer.{PageAnswer}
-use Rattle.panel_page.specs.declared.PageAnswer.TheVariants.{Answered, Refused}
 use Rattle.panel_page.specs.declared.rows.PageLookup.{PageLookup}
 
 -- ---- rows
@@ -61,12 +60,12 @@ page_refusal_of TooManyKeys = model.too_many_keys
 page_refusal_of TooFewPlaces = model.too_few_places
 
 -- the refusal, or so many rows
-abbrev pub page_answer : ℕ → Option model.PageRefusal → PageAnswer
-page_answer n none = Answered n
-page_answer n (some model.too_many_keys) = Refused TooManyKeys
-page_answer n (some model.too_few_places) = Refused TooFewPlaces
+abbrev pub page_answer : ℕ → Option model.PageRefusal → code.Result ℕ PageRefusal
+page_answer n none = code.Ok n
+page_answer n (some model.too_many_keys) = code.Err TooManyKeys
+page_answer n (some model.too_few_places) = code.Err TooFewPlaces
 
 -- places behind the rows stay, and a refusal leaves every byte
-abbrev pub OtherPlacesKept : List ℕ → List ℕ → PageAnswer → Type 0
-OtherPlacesKept before after (Answered n) = drop (n * page_width) after ≡ drop (n * page_width) before
-OtherPlacesKept before after (Refused f) = after ≡ before
+abbrev pub OtherPlacesKept : List ℕ → List ℕ → code.Result ℕ PageRefusal → Type 0
+OtherPlacesKept before after (code.Ok n) = drop (n * page_width) after ≡ drop (n * page_width) before
+OtherPlacesKept before after (code.Err f) = after ≡ before

@@ -17,7 +17,7 @@ ghost use Rattle.panel_page.specs.PageTable.{page_width, page_bytes, page_refusa
 
 use rows::PageLookup;
 
-#[derive(Drop)]
+#[derive(Clone, Copy)]
 pub enum PageRefusal {
     TooManyKeys,
     TooFewPlaces,
@@ -35,13 +35,6 @@ impl PageRefusal {
     }
 }
 
-// Answered gives the number of rows, one for each key.
-#[derive(Drop)]
-pub enum PageAnswer {
-    Answered(usize),
-    Refused(PageRefusal),
-}
-
 // Makes answers the rows of the keys: those that are found, and zeros for the others.
 fn fill_page(table: &[u8], count: usize, collection: u64, keys: &[u64], answers: &mut [u8])
     requires { (length keys.now ≤ page_keys) × (length answers.old ≡ length keys.now * page_width) }
@@ -56,27 +49,27 @@ fn fill_page(table: &[u8], count: usize, collection: u64, keys: &[u64], answers:
     places::change_places(answers, keys.len(), true);
 }
 
-// Looks the keys of a collection up in a table of entries, and writes one row for each into the answers, in their order. Places behind the
-// last key stay; a refusal leaves every byte. Of a table that stores no projection the rows hold some of its bytes, or are zero.
+// Looks the keys of a collection up in a table of entries, and writes one row for each into the answers, in their order; the answer is how
+// many. Places behind the last key stay; a refusal leaves every byte. Of a table that stores no projection the rows hold some of its bytes, or are zero.
 pub fn collection_page(
     table: &[u8],
     count: usize,
     collection: u64,
     keys: &[u64],
     answers: &mut [u8],
-) -> PageAnswer
+) -> Result<usize, PageRefusal>
     ensures told { result ≡ page_answer (length keys.now) (page_refusal (length keys.now) (length answers.old / page_width)) }
     ensures written { (p : Projection) → Stored entry_row entry_width projection_entries count table.now p.entries → Valid p
         → answers.new ≡ table_left (page_refusal (length keys.now) (length answers.old / page_width)) (page_bytes p collection keys.now) answers.old }
     ensures kept { OtherPlacesKept answers.old answers.new result }
 {
     if PageLookup::KEYS < keys.len() {
-        return PageAnswer::Refused(PageRefusal::TooManyKeys);
+        return Err(PageRefusal::TooManyKeys);
     }
     if answers.len() / PageLookup::WIDTH < keys.len() {
-        return PageAnswer::Refused(PageRefusal::TooFewPlaces);
+        return Err(PageRefusal::TooFewPlaces);
     }
     let end = keys.len() * PageLookup::WIDTH;
     fill_page(table, count, collection, keys, &mut answers[..end]);
-    PageAnswer::Answered(keys.len())
+    Ok(keys.len())
 }

@@ -48,10 +48,10 @@ use Rattle.panel_operations.specs.OperationLaws.{planned_is}
 use Rattle.patch_walk.specs.contracts.SetStep as set-steps
 use Rattle.panel_steps.specs.Runs.{run_head, RunBecame, PlannedAs, RunWalked, patches_passed, patch_index, operation_index, HaltsAt, RunTold}
 use Rattle.panel_steps.specs.Walking.{Walking, walk_start, walk_counted, walk_end, walk_head, walk_on_lem, walk_halts}
-use Rattle.panel_steps.specs.declared.HeadStep.TheVariants as head_step
-use Rattle.panel_steps.specs.declared.PlanRun.{PlanRun}
-use Rattle.panel_steps.specs.declared.PlanRun.TheVariants.{Planned, Refused}
-use Rattle.std.specs.Prelude.{Result, Ok, Err, OnErr}
+use Rattle.projection_patch.specs.declared.read_values.ProjectionPatchReadFault.{ProjectionPatchReadFault}
+use Rattle.panel_steps.specs.declared.PlanStop.{PlanStop}
+use Rattle.panel_steps.specs.declared.PlanStop.TheVariants.{Refused}
+use Rattle.std.specs.Prelude.{Option, Some, None, Result, Ok, Err, OnErr}
 use Rattle.panel_bindings.specs.Change.{Became}
 
 -- the bytes before a value are as many, whatever the value
@@ -87,22 +87,20 @@ pub record HeadAt (s : StepAnswer) (d : SetCursor) : Type 0 where
   pub head : ProjectionPatch
   pub is : s ≡ code.Ok (set-step.Head head d)
 
-pub opened_step : (n : ProjectionCounts) (s : StepAnswer) (d : SetCursor) → head_step.Opened d ≡ run_head n s → HeadAt s d
-opened_step n (code.Ok (set-step.Head h x)) d e = let same : x ≡ d = cc in record { head = h; is = ap (λ (y : SetCursor). code.Ok (set-step.Head h y)) same }
-opened_step n (code.Ok (set-step.Operation x f)) d e = absurd (let z : ◌≡◌ {A = ℕ} 0 1 = cc in omega arith)
-opened_step n (code.Ok set-step.End) d e = absurd (let z : ◌≡◌ {A = ℕ} 0 1 = cc in omega arith)
-opened_step n (code.Err f) d e = absurd (let z : ◌≡◌ {A = ℕ} 0 1 = cc in omega arith)
+pub opened_step : (s : StepAnswer) (d : SetCursor) → Ok (Some d) ≡ run_head s → HeadAt s d
+opened_step (code.Ok (set-step.Head h x)) d e = let same : x ≡ d = cc in record { head = h; is = ap (λ (y : SetCursor). code.Ok (set-step.Head h y)) same }
+opened_step (code.Ok (set-step.Operation x f)) d e = absurd (let z : ◌≡◌ {A = ℕ} 0 1 = cc in omega arith)
+opened_step (code.Ok set-step.End) d e = absurd (let z : ◌≡◌ {A = ℕ} 0 1 = cc in omega arith)
+opened_step (code.Err f) d e = absurd (let z : ◌≡◌ {A = ℕ} 0 1 = cc in omega arith)
 
-pub opened_within : (c : SetCursor) (size : ℕ) (n : ProjectionCounts) (s : StepAnswer) (d : SetCursor) → head_step.Opened d ≡ run_head n s → StepWithin c size s → (c.at < d.at) × (d.at ≤ size)
-opened_within c size n s d e h = let x = opened_step n s d e in head_within c size x.head d x.is h
+pub opened_within : (c : SetCursor) (size : ℕ) (s : StepAnswer) (d : SetCursor) → Ok (Some d) ≡ run_head s → StepWithin c size s → (c.at < d.at) × (d.at ≤ size)
+opened_within c size s d e h = let x = opened_step s d e in head_within c size x.head d x.is h
 
 -- where operations are left one stands there
 module _ {ed : Edition} {set : List ℕ} {c : SetCursor} {os : List Operation} {ps : List Patch} (here : AtSteps ed set c os ps) where
-  pub some_operation : c.operations_left ≢ 0 → (s : StepAnswer) → s ≡ step_answer false ed c set → OneOf (0 ∷ 2 ∷ 3 ∷ []) (tag_of set-steps.the_type s) → ⊥
+  pub some_operation : c.operations_left ≢ 0 → (s : StepAnswer) → s ≡ step_answer false ed c set → ((x : ProjectionPatchOperation) (d : SetCursor) → s ≡ code.Ok (set-step.Operation x d) → ⊥) → ⊥
   some_operation left (code.Ok (set-step.Head h d)) is k = left (sym here.operations ∙ ap length (opened false ed set c here is h d refl).none)
-  some_operation left (code.Ok (set-step.Operation x d)) is (inl e) = absurd (omega arith)
-  some_operation left (code.Ok (set-step.Operation x d)) is (inr (inl e)) = absurd (omega arith)
-  some_operation left (code.Ok (set-step.Operation x d)) is (inr (inr e)) = absurd (omega arith)
+  some_operation left (code.Ok (set-step.Operation x d)) is k = k x d refl
   some_operation left (code.Ok set-step.End) is k = left (sym here.operations ∙ ap length (all_done false ed set c here is refl).0)
   some_operation left (code.Err f) is k = never_refused false ed set c here is f refl
 
@@ -121,7 +119,7 @@ pub record Running (ed : Edition) (p : Projection) (all : List Patch) (set : Lis
 -- what an operation's answer makes of a run: it goes on, or the tables are as before, and the answer is the operation's refusal
 abbrev AfterTurn : Edition → Projection → List Patch → List ℕ → (c d : SetCursor) → ProjectionCounts → (b a e b' a' e' : List ℕ) → Result ProjectionCounts LocalProjectionApplicationError → Type 0
 AfterTurn ed p all set c d n b a e b' a' e' (Ok m) = Running ed p all set d m b' a' e'
-AfterTurn ed p all set c d n b a e b' a' e' (Err error) = RunTold ed p all set b a e (Refused error c n)
+AfterTurn ed p all set c d n b a e b' a' e' (Err error) = RunTold ed p all set b a e (Err (Refused error c n))
 
 pub record Turned (ed : Edition) (p : Projection) (all : List Patch) (set : List ℕ) (c d : SetCursor) (n : ProjectionCounts) (b a e b' a' e' : List ℕ) (r : Result ProjectionCounts LocalProjectionApplicationError) : Type 0 where
   after : AfterTurn ed p all set c d n b a e b' a' e' r
@@ -130,12 +128,12 @@ module _ {ed : Edition} {p : Projection} {all : List Patch} {set : List ℕ} {c 
   pub turned_on : {m : ProjectionCounts} → r ≡ Ok m → Running ed p all set d m b' a' e'
   turned_on is = subst (AfterTurn ed p all set c d n b a e b' a' e') is t.after
 
-  pub turned_stop : {error : LocalProjectionApplicationError} → r ≡ Err error → OnErr r ((b' ≡ b) × (a' ≡ a) × (e' ≡ e)) → RunTold ed p all set b' a' e' (Refused error c n)
+  pub turned_stop : {error : LocalProjectionApplicationError} → r ≡ Err error → OnErr r ((b' ≡ b) × (a' ≡ a) × (e' ≡ e)) → RunTold ed p all set b' a' e' (Err (Refused error c n))
   turned_stop {error} is kept =
       let same = subst (λ x. OnErr x ((b' ≡ b) × (a' ≡ a) × (e' ≡ e))) is kept in
       let told = subst (AfterTurn ed p all set c d n b a e b' a' e') is t.after in
-      subst (λ (l : List ℕ). RunTold ed p all set l a' e' (Refused error c n)) (sym same.0)
-      (subst (λ (l : List ℕ). RunTold ed p all set b l e' (Refused error c n)) (sym same.1) (subst (λ (l : List ℕ). RunTold ed p all set b a l (Refused error c n)) (sym same.2) told))
+      subst (λ (l : List ℕ). RunTold ed p all set l a' e' (Err (Refused error c n))) (sym same.0)
+      (subst (λ (l : List ℕ). RunTold ed p all set b l e' (Err (Refused error c n))) (sym same.1) (subst (λ (l : List ℕ). RunTold ed p all set b a l (Err (Refused error c n))) (sym same.2) told))
 
 module _ {ed : Edition} {p : Projection} {set : List ℕ} where
   pub run_start : {c : SetCursor} {n : ProjectionCounts} {b a e : List ℕ} (ps : List Patch) → Valid p → StoredPlan n b a e (plan_of p) → AtSteps ed set c [] ps → Running ed p ps set c n b a e
@@ -152,12 +150,12 @@ module _ {ed : Edition} {p : Projection} {set : List ℕ} where
       }
 
   module _ {c : SetCursor} {n : ProjectionCounts} {b a e : List ℕ} {all : List Patch} (run : Running ed p all set c n b a e) where
-    run_end : (run.walk.os ≡ []) × (run.walk.ps ≡ []) → RunTold ed p all set b a e (Planned n)
+    run_end : (run.walk.os ≡ []) × (run.walk.ps ≡ []) → RunTold ed p all set b a e (Ok n)
     unfolding replay_steps flat_map apply_steps
     run_end ended = record {
-      became = subst (RunBecame (PlannedAs ed p set b a e) (Planned n))
+      became = subst (RunBecame (PlannedAs ed p set b a e) (Ok n))
           (ap₂ (λ (os : List Operation) (ps : List Patch). apply_steps run.model (map (step_of c.patch_id) os ++ replay_steps ps)) (sym ended.0) (sym ended.1) ∙ run.same) run.planned;
-      walked = subst (RunWalked (PlannedAs ed p set b a e) (HaltsAt ed set (length all)) (Planned n)) (sym (walk_end step_kept ed set _ run.walk ended)) run.planned;
+      walked = subst (RunWalked (PlannedAs ed p set b a e) (HaltsAt ed set (length all)) (Ok n)) (sym (walk_end step_kept ed set _ run.walk ended)) run.planned;
     }
 
     -- a patch's head: its operations are left now
@@ -179,18 +177,28 @@ module _ {ed : Edition} {p : Projection} {set : List ℕ} where
         }
 
     -- the same of the step that was told
-    pub run_opened : {d : SetCursor} → head_step.Opened d ≡ run_head n (step_answer false ed c set) → Running ed p all set d n b a e
-    run_opened {d} e = let x = opened_step n (step_answer false ed c set) d e in run_head_lem (opened false ed set c run.walk.here refl x.head d x.is)
+    pub run_opened : {d : SetCursor} → Ok (Some d) ≡ run_head (step_answer false ed c set) → Running ed p all set d n b a e
+    run_opened {d} e = let x = opened_step (step_answer false ed c set) d e in run_head_lem (opened false ed set c run.walk.here refl x.head d x.is)
 
     -- where no operation is left the run ends at the end alone
-    pub run_ended : c.operations_left ≡ 0 → {r : PlanRun} → head_step.Ended r ≡ run_head n (step_answer false ed c set) → RunTold ed p all set b a e r
-    run_ended all-passed {r} told = go (step_answer false ed c set) refl told
+    pub run_ended : Ok None ≡ run_head (step_answer false ed c set) → RunTold ed p all set b a e (Ok n)
+    run_ended told = go (step_answer false ed c set) refl told
       where
-        go : (s : StepAnswer) → s ≡ step_answer false ed c set → head_step.Ended r ≡ run_head n s → RunTold ed p all set b a e r
+        go : (s : StepAnswer) → s ≡ step_answer false ed c set → Ok None ≡ run_head s → RunTold ed p all set b a e (Ok n)
         go (code.Ok (set-step.Head h d)) is t = absurd (let z : ◌≡◌ {A = ℕ} 0 1 = cc in omega arith)
-        go (code.Ok (set-step.Operation x d)) is t = let v = visited false ed set c run.walk.here is x d refl in absurd (omega (arith, all-passed, run.walk.here.operations, ap length v.is))
-        go (code.Ok set-step.End) is t = let same : Planned n ≡ r = cc in subst (RunTold ed p all set b a e) same (run_end (all_done false ed set c run.walk.here is refl))
-        go (code.Err f) is t = absurd (never_refused false ed set c run.walk.here is f refl)
+        go (code.Ok (set-step.Operation x d)) is t = absurd (let z : ◌≡◌ {A = ℕ} 0 1 = cc in omega arith)
+        go (code.Ok set-step.End) is t = run_end (all_done false ed set c run.walk.here is refl)
+        go (code.Err f) is t = absurd (let z : ◌≡◌ {A = ℕ} 0 1 = cc in omega arith)
+
+    -- and nothing there is unreadable
+    pub never_unread : c.operations_left ≡ 0 → {f : ProjectionPatchReadFault} → Err f ≡ run_head (step_answer false ed c set) → ⊥
+    never_unread all-passed {f} told = go (step_answer false ed c set) refl told
+      where
+        go : (s : StepAnswer) → s ≡ step_answer false ed c set → Err f ≡ run_head s → ⊥
+        go (code.Ok (set-step.Head h d)) is t = let z : ◌≡◌ {A = ℕ} 0 1 = cc in omega arith
+        go (code.Ok (set-step.Operation x d)) is t = let v = visited false ed set c run.walk.here is x d refl in omega (arith, all-passed, run.walk.here.operations, ap length v.is)
+        go (code.Ok set-step.End) is t = let z : ◌≡◌ {A = ℕ} 0 1 = cc in omega arith
+        go (code.Err g) is t = never_refused false ed set c run.walk.here is g refl
 
     -- ---- an operation
 
@@ -276,7 +284,7 @@ module _ {ed : Edition} {p : Projection} {set : List ℕ} where
           go (Ok m) (stopped f) gives h = absurd h
           go (Err error) (done q) gives h = absurd h
           go (Err error) (stopped f) gives h = record {
-            became = subst (RunBecame (PlannedAs ed p set b a e) (Refused error c n)) (by_step (stopped f) gives) h;
-            walked = subst (RunWalked (PlannedAs ed p set b a e) (HaltsAt ed set (length all)) (Refused error c n)) (sym (walk_halts step_kept ed set _ run.walk v (kept (stopped f) gives)))
+            became = subst (RunBecame (PlannedAs ed p set b a e) (Err (Refused error c n))) (by_step (stopped f) gives) h;
+            walked = subst (RunWalked (PlannedAs ed p set b a e) (HaltsAt ed set (length all)) (Err (Refused error c n))) (sym (walk_halts step_kept ed set _ run.walk v (kept (stopped f) gives)))
                 (run.planned, record { later = v.rest; rest = run.walk.ps; here = subst (λ os. AtSteps ed set c os run.walk.ps) v.is run.walk.here; patch = refl; operation = refl });
           }

@@ -1,6 +1,5 @@
 -- What a run over a set answers, and the plan that it leaves.
-use Rattle.std.specs.Prelude as code
-use Rattle.std.specs.Prelude.{ℕ, ◌-◌, ◌≡◌, List, ◌∷◌, length}
+use Rattle.std.specs.Prelude.{ℕ, ◌-◌, ◌≡◌, List, ◌∷◌, length, Option, Some, None, Result, Ok, Err}
 use Rattle.spec_patch.specs.Edition.{Edition}
 use Rattle.spec_patch.specs.Patch.{Operation, Patch}
 use Rattle.spec_projection.specs.Projection.{Projection}
@@ -14,31 +13,30 @@ use Rattle.panel_plan.specs.PlanRows.{StoredPlan}
 use Rattle.panel_plan.specs.SetValues.{value_in}
 use Rattle.panel_plan.specs.Sources.{SourcedPlan}
 use Rattle.local_projection_state.specs.Faults.{application_fault_of}
+use Rattle.projection_patch.specs.declared.read_values.ProjectionPatchReadFault.{ProjectionPatchReadFault}
 use Rattle.projection_patch.specs.declared.read_values.ProjectionPatchReadFault.TheVariants.{Malformed}
 use Rattle.patch_walk.specs.Steps.{AtSteps}
 use Rattle.patch_walk.specs.declared.SetCursor.{SetCursor}
 use Rattle.patch_walk.specs.Steps.{StepAnswer}
 use Rattle.patch_walk.specs.declared.SetStep.TheVariants as set-step
-use Rattle.panel_steps.specs.declared.HeadStep.{HeadStep}
-use Rattle.panel_steps.specs.declared.HeadStep.TheVariants as head_step
-use Rattle.panel_steps.specs.declared.PlanRun.{PlanRun}
-use Rattle.panel_steps.specs.declared.PlanRun.TheVariants.{Planned, Refused, Unreadable}
+use Rattle.panel_steps.specs.declared.PlanStop.{PlanStop}
+use Rattle.panel_steps.specs.declared.PlanStop.TheVariants.{Refused, Unreadable}
 
 -- the answer is the outcome's: with these counts the tables are what the next projection says, or the refusal is the fault's
-abbrev pub RunBecame : (ProjectionCounts → Projection → Type 0) → PlanRun → Outcome → Type 0
-RunBecame Next (Planned n) (done q) = Next n q
-RunBecame Next (Planned n) (stopped f) = ⊥
-RunBecame Next (Refused e c n) (done q) = ⊥
-RunBecame Next (Refused e c n) (stopped f) = application_fault_of e ≡ f
-RunBecame Next (Unreadable f) x = ⊥
+abbrev pub RunBecame : (ProjectionCounts → Projection → Type 0) → Result ProjectionCounts PlanStop → Outcome → Type 0
+RunBecame Next (Ok n) (done q) = Next n q
+RunBecame Next (Ok n) (stopped f) = ⊥
+RunBecame Next (Err (Refused e c n)) (done q) = ⊥
+RunBecame Next (Err (Refused e c n)) (stopped f) = application_fault_of e ≡ f
+RunBecame Next (Err (Unreadable f)) x = ⊥
 
 -- the same by a walk over the patches: it goes through, or it halts at the cursor, and there the tables are what it leaves
-abbrev pub RunWalked : (ProjectionCounts → Projection → Type 0) → (SetCursor → Halt Projection → Type 0) → PlanRun → Walk Projection → Type 0
-RunWalked Next Halts (Planned n) (through q) = Next n q
-RunWalked Next Halts (Planned n) (halted h) = ⊥
-RunWalked Next Halts (Refused e c n) (through q) = ⊥
-RunWalked Next Halts (Refused e c n) (halted h) = Next n h.left × Halts c h
-RunWalked Next Halts (Unreadable f) w = ⊥
+abbrev pub RunWalked : (ProjectionCounts → Projection → Type 0) → (SetCursor → Halt Projection → Type 0) → Result ProjectionCounts PlanStop → Walk Projection → Type 0
+RunWalked Next Halts (Ok n) (through q) = Next n q
+RunWalked Next Halts (Ok n) (halted h) = ⊥
+RunWalked Next Halts (Err (Refused e c n)) (through q) = ⊥
+RunWalked Next Halts (Err (Refused e c n)) (halted h) = Next n h.left × Halts c h
+RunWalked Next Halts (Err (Unreadable f)) w = ⊥
 
 -- how far a cursor is in a set of so many patches: those that were opened, the index of the last of them, and that of the operation that
 -- comes next in it
@@ -59,12 +57,12 @@ pub record HaltsAt (ed : Edition) (set : List ℕ) (count : ℕ) (c : SetCursor)
   pub patch : h.patch ≡ patch_index count c
   pub operation : h.operation ≡ operation_index c
 
--- what a step is to a walk that expects a patch's head or the end, with so many rows held
-abbrev pub run_head : ProjectionCounts → StepAnswer → HeadStep
-run_head held (code.Ok (set-step.Head h d)) = head_step.Opened d
-run_head held (code.Ok (set-step.Operation x d)) = head_step.Ended (Unreadable Malformed)
-run_head held (code.Ok set-step.End) = head_step.Ended (Planned held)
-run_head held (code.Err f) = head_step.Ended (Unreadable f)
+-- what a step is to a walk that expects a patch's head or the end
+abbrev pub run_head : StepAnswer → Result (Option SetCursor) ProjectionPatchReadFault
+run_head (Ok (set-step.Head h d)) = Ok (Some d)
+run_head (Ok (set-step.Operation x d)) = Err Malformed
+run_head (Ok set-step.End) = Ok None
+run_head (Err f) = Err f
 
 -- tables that store a plan of the projection x, for a batch on p: its sources stand for values, and resolving them gives x
 pub record PlannedAs (ed : Edition) (p : Projection) (set b a e : List ℕ) (n : ProjectionCounts) (x : Projection) : Type 0 where
@@ -74,6 +72,6 @@ pub record PlannedAs (ed : Edition) (p : Projection) (set b a e : List ℕ) (n :
   pub resolves : resolved (resolution p (value_in ed set)) plan ≡ x
 
 -- what a run over these patches answers of a batch on p, with the tables as it leaves them: by their steps, and by the walk over them
-pub record RunTold (ed : Edition) (p : Projection) (ps : List Patch) (set b a e : List ℕ) (r : PlanRun) : Type 0 where
+pub record RunTold (ed : Edition) (p : Projection) (ps : List Patch) (set b a e : List ℕ) (r : Result ProjectionCounts PlanStop) : Type 0 where
   pub became : RunBecame (PlannedAs ed p set b a e) r (apply_steps p (replay_steps ps))
   pub walked : RunWalked (PlannedAs ed p set b a e) (HaltsAt ed set (length ps)) r (walk_patches step_kept 0 p ps)

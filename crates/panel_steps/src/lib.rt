@@ -14,6 +14,7 @@ ghost use Rattle.panel_plan.specs.Plan.{plan_of};
 ghost use Rattle.panel_plan.specs.PlanRows.{StoredPlan};
 ghost use Rattle.panel_plan.specs.SetValues.{value_offset};
 ghost use Rattle.panel_steps.specs.Runs.{run_head, RunTold};
+ghost use Rattle.panel_steps.specs.declared.PlanStop.TheVariants.{Unreadable};
 
 use local_projection_state::{
     LocalProjectionApplicationError, LocalProjectionState, ProjectionCounts,
@@ -23,13 +24,23 @@ use projection_patch::patch::{ProjectionPatchEdition, ProjectionPatchOperation};
 use projection_patch::read_values::ProjectionPatchReadFault;
 use projection_patch::widths;
 
-// How many rows each table of the plan has at the end, or why the run stopped: of a refusal the cursor at the operation that is refused, and
-// the rows of the plan before it, which the tables still hold.
-#[derive(Drop)]
-pub enum PlanRun {
-    Planned(ProjectionCounts),
-    Refused(LocalProjectionApplicationError, SetCursor, ProjectionCounts),
+// Why a run stopped: of a refusal the cursor at the operation that is refused, and the rows of the plan before it, which the tables still hold.
+#[derive(Clone, Copy)]
+pub enum PlanStop {
+    Refused {
+        error: LocalProjectionApplicationError,
+        cursor: SetCursor,
+        held: ProjectionCounts,
+    },
     Unreadable(ProjectionPatchReadFault),
+}
+
+impl From<ProjectionPatchReadFault> for PlanStop {
+    ghost from_gives = { λ fault stop. stop ≡ Unreadable fault };
+
+    fn from(fault: ProjectionPatchReadFault) -> PlanStop {
+        PlanStop::Unreadable(fault)
+    }
 }
 
 // How many bytes of an operation stand before its value: the kind and the ids.
@@ -49,30 +60,20 @@ fn value_offset(operation: ProjectionPatchOperation) -> usize
     }
 }
 
-// What stands at a cursor whose patch has no operations left: the next patch's head, with the cursor behind it, or the end of the run.
-#[derive(Drop)]
-enum HeadStep {
-    Opened(SetCursor),
-    Ended(PlanRun),
-}
-
-// Heads are read by themselves: an operation is then taken from where it was read, and not copied into a step that may be either.
+// The cursor behind the next patch's head, where a patch has no operations left, or none at the end. Heads are read by themselves: an operation
+// is then taken from where it was read, and not copied into a step that may be either.
 fn next_head(
     set: &[u8],
     cursor: SetCursor,
-    held: ProjectionCounts,
     edition: ProjectionPatchEdition,
-) -> HeadStep
-    ensures is { result ≡ run_head held (step_answer false (edition_of edition) cursor set.now) }
+) -> Result<Option<SetCursor>, ProjectionPatchReadFault>
+    ensures is { result ≡ run_head (step_answer false (edition_of edition) cursor set.now) }
     ensures within { StepWithin cursor (length set.now) (step_answer false (edition_of edition) cursor set.now) }
 {
-    match patch_walk::next_step(set, cursor, false, edition) {
-        Ok(SetStep::Head(_, next)) => HeadStep::Opened(next),
-        Ok(SetStep::Operation(_, _)) => {
-            HeadStep::Ended(PlanRun::Unreadable(ProjectionPatchReadFault::Malformed))
-        }
-        Ok(SetStep::End) => HeadStep::Ended(PlanRun::Planned(held)),
-        Err(fault) => HeadStep::Ended(PlanRun::Unreadable(fault)),
+    match patch_walk::next_step(set, cursor, false, edition)? {
+        SetStep::Head(_, next) => Ok(Some(next)),
+        SetStep::Operation(_, _) => Err(ProjectionPatchReadFault::Malformed),
+        SetStep::End => Ok(None),
     }
 }
 
@@ -85,7 +86,7 @@ pub fn plan_steps(
     set: &[u8],
     edition: ProjectionPatchEdition,
     from: SetCursor,
-) -> PlanRun
+) -> Result<ProjectionCounts, PlanStop>
     requires { length set.now ≤ set_bytes }
     ensures { (p : Projection) (ps : List Patch) → Valid p → StoredPlan counts bindings.old availability.old entries.old (plan_of p)
         → AtSteps (edition_of edition) set.now from [] ps
@@ -95,18 +96,16 @@ pub fn plan_steps(
     let mut cursor = from;
     loop {
         if cursor.operations_left == 0 {
-            match next_head(set, cursor, held, edition) {
-                HeadStep::Opened(next) => {
-                    cursor = next;
-                }
-                HeadStep::Ended(run) => {
-                    return run;
-                }
-            }
+            let Some(next) = next_head(set, cursor, edition)? else {
+                return Ok(held);
+            };
+            cursor = next;
         } else {
-            let step = patch_walk::next_step(set, cursor, false, edition);
-            let Ok(SetStep::Operation(operation, next)) = step else {
-                return PlanRun::Unreadable(ProjectionPatchReadFault::Malformed);
+            let (operation, next) = match patch_walk::next_step(set, cursor, false, edition) {
+                Ok(SetStep::Operation(operation, next)) => (operation, next),
+                Ok(SetStep::Head(_, _)) => return Err(ProjectionPatchReadFault::Malformed.into()),
+                Ok(SetStep::End) => return Err(ProjectionPatchReadFault::Malformed.into()),
+                Err(fault) => return Err(fault.into()),
             };
             let at = cursor.at + value_offset(operation);
             let source = (LocalProjectionState::ENTRIES + at) as u64;
@@ -124,7 +123,11 @@ pub fn plan_steps(
                     cursor = next;
                 }
                 Err(error) => {
-                    return PlanRun::Refused(error, cursor, held);
+                    return Err(PlanStop::Refused {
+                        error,
+                        cursor,
+                        held,
+                    });
                 }
             }
         }

@@ -1,15 +1,14 @@
 -- The answer that a creation in the model is told by.
-use Rattle.std.specs.Prelude.{◌≡◌}
+use Rattle.std.specs.Prelude.{◌≡◌, Result, Ok, Err}
 use Rattle.spec_session.specs.Session.{Creation, made, refused}
 use Rattle.session_creation.specs.Creation.{Creates}
 use Rattle.session_creation.specs.declared.CreationRefusal.TheVariants.{AnchorsOverCapacity}
-use Rattle.session_creation.specs.declared.CreationAnswer.{CreationAnswer}
-use Rattle.session_creation.specs.declared.CreationAnswer.TheVariants.{Created, Refused}
+use Rattle.session_creation.specs.declared.CreationRefusal.{CreationRefusal}
 use Rattle.session_creation.specs.declared.ShellSessionCreation.{ShellSessionCreation}
 
-unfoldable pub creation_to : Creation → CreationAnswer
-creation_to (made s) = Created
-creation_to (refused r) = Refused AnchorsOverCapacity
+unfoldable pub creation_to : Creation → Result (Unit {0}) CreationRefusal
+creation_to (made s) = Ok tt
+creation_to (refused r) = Err AnchorsOverCapacity
 
 -- it is what the creation call answers
 pub creation_told : (c : Creation) (r : ShellSessionCreation) → Creates c r → r.answer ≡ creation_to c

@@ -1,5 +1,5 @@
 -- The lines of a page, by what the call answered and left.
-use Rattle.std.specs.Prelude.{ℕ, ◌+◌, ◌-◌, ◌*◌, ◌<◌, ◌≡◌, true, false, length, get_or, take, drop, replicate, if◌then◌else◌}
+use Rattle.std.specs.Prelude.{ℕ, ◌+◌, ◌-◌, ◌*◌, ◌<◌, ◌≡◌, true, false, length, get_or, take, drop, replicate, if◌then◌else◌, Result, Ok, Err}
 use Rattle.std.proofs.Math.Path.{refl, sym, ap, ap₂}
 use Rattle.std.proofs.Common.{◌∙◌, arith, take_at}
 use mathlib.Core.List.{List, [], ◌∷◌, ◌++◌, flat_map}
@@ -20,8 +20,6 @@ use Rattle.panel_page.specs.PageTable.{page_width, answer_row, page_bytes, FitsA
 use Rattle.panel_page.specs.PageTableLaws.{page_fits, page_place}
 use Rattle.panel_page.specs.declared.PageRefusal.{PageRefusal}
 use Rattle.panel_page.specs.declared.PageRefusal.TheVariants.{TooManyKeys, TooFewPlaces}
-use Rattle.panel_page.specs.declared.PageAnswer.{PageAnswer}
-use Rattle.panel_page.specs.declared.PageAnswer.TheVariants.{Answered, Refused}
 use Rattle.panel_page.specs.declared.rows.PageLookup.{PageLookup}
 use Rattle.script_answers.specs.PageTold.{row_lookup_line, PageTold}
 
@@ -68,9 +66,9 @@ lent_place p v c keys rest table is i h =
 
 -- ---- by the answer
 
-module _ (p : Projection) (c : ℕ) (keys : List ℕ) (places : ℕ) (answer : PageAnswer) (output : List ℕ) (h : PageTold p c keys places answer output) where
-  module _ (n : ℕ) (is : answer ≡ Answered n) where
-    taken : (o : Option model.PageRefusal) → page_answer (length keys) o ≡ Answered n → (o ≡ none) × (length keys ≡ n)
+module _ (p : Projection) (c : ℕ) (keys : List ℕ) (places : ℕ) (answer : Result ℕ PageRefusal) (output : List ℕ) (h : PageTold p c keys places answer output) where
+  module _ (n : ℕ) (is : answer ≡ Ok n) where
+    taken : (o : Option model.PageRefusal) → page_answer (length keys) o ≡ Ok n → (o ≡ none) × (length keys ≡ n)
     taken none e = (refl, cc)
     taken (some model.too_many_keys) e = absurd (let z : ◌≡◌ {A = ℕ} 0 1 = cc in omega arith)
     taken (some model.too_few_places) e = absurd (let z : ◌≡◌ {A = ℕ} 0 1 = cc in omega arith)
@@ -94,14 +92,14 @@ module _ (p : Projection) (c : ℕ) (keys : List ℕ) (places : ℕ) (answer : P
         (sym (take_at rows (drop (length rows) (replicate places none)) (length keys) (page_length p c keys)))
         ∙ sym (ap (λ (o : Option model.PageRefusal). answered_lines (length keys) o (table_left o rows (replicate places none))) room)
 
-  pub page_refused_lines : (f : PageRefusal) → answer ≡ Refused f → 89 ∷ fields (decimal (page_number (page_refusal_of f)) ∷ []) ≡ page_lines (length keys) (page p c keys (replicate places none))
+  pub page_refused_lines : (f : PageRefusal) → answer ≡ Err f → 89 ∷ fields (decimal (page_number (page_refusal_of f)) ∷ []) ≡ page_lines (length keys) (page p c keys (replicate places none))
   unfolding page_lines answered_lines page
   page_refused_lines f is = go (page_refusal (length keys) places) refl (sym h.answered ∙ is)
     where
       lines : (o : Option model.PageRefusal) → page_refusal (length keys) places ≡ o → page_lines (length keys) (page p c keys (replicate places none)) ≡ answered_lines (length keys) o (table_left o (page_rows p c keys) (replicate places none))
       lines o e = ap (λ (q : Option model.PageRefusal). answered_lines (length keys) q (table_left q (page_rows p c keys) (replicate places none))) (ap (page_refusal (length keys)) (length-replicate places none) ∙ e)
 
-      go : (o : Option model.PageRefusal) → page_refusal (length keys) places ≡ o → page_answer (length keys) o ≡ Refused f → 89 ∷ fields (decimal (page_number (page_refusal_of f)) ∷ []) ≡ page_lines (length keys) (page p c keys (replicate places none))
+      go : (o : Option model.PageRefusal) → page_refusal (length keys) places ≡ o → page_answer (length keys) o ≡ Err f → 89 ∷ fields (decimal (page_number (page_refusal_of f)) ∷ []) ≡ page_lines (length keys) (page p c keys (replicate places none))
       go none e q = absurd (let z : ◌≡◌ {A = ℕ} 0 1 = cc in omega arith)
       go (some model.too_many_keys) e q = let same : TooManyKeys ≡ f = cc in ap (λ (g : PageRefusal). 89 ∷ fields (decimal (page_number (page_refusal_of g)) ∷ [])) (sym same) ∙ sym (lines (some model.too_many_keys) e)
       go (some model.too_few_places) e q = let same : TooFewPlaces ≡ f = cc in ap (λ (g : PageRefusal). 89 ∷ fields (decimal (page_number (page_refusal_of g)) ∷ [])) (sym same) ∙ sym (lines (some model.too_few_places) e)

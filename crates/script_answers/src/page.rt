@@ -13,7 +13,7 @@ ghost use Rattle.panel_page.specs.PageTable.{page_bytes};
 ghost use Rattle.script_answers.specs.PageTold.{row_lookup_line, PageTold};
 
 use crate::value;
-use panel_page::PageAnswer;
+use panel_page::PageRefusal;
 use panel_page::rows::PageLookup;
 
 // M, the position and the value of a key that was found; a dash for one that was not.
@@ -59,13 +59,13 @@ fn print_answered(out: &mut [u8], at: Option<usize>, table: &[u8], count: usize)
 }
 
 // What the call answered, and the answer table that it left.
-pub fn print_page(out: &mut [u8], at: Option<usize>, answer: PageAnswer, table: &[u8]) -> Option<usize>
+pub fn print_page(out: &mut [u8], at: Option<usize>, answer: Result<usize, PageRefusal>, table: &[u8]) -> Option<usize>
     ensures { (p : Projection) (c : ℕ) (keys : List ℕ) (places : ℕ) → PageTold p c keys places answer table.now
         → Prints out.old at (page_lines (length keys) (page p c keys (replicate places none))) out.new result }
 {
     match answer {
-        PageAnswer::Answered(count) => print_answered(out, at, table, count),
-        PageAnswer::Refused(refusal) => {
+        Ok(count) => print_answered(out, at, table, count),
+        Err(refusal) => {
             listing_lines::print_number_line(out, at, 89, refusal.number())
         }
     }

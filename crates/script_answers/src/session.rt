@@ -8,18 +8,18 @@ ghost use Rattle.session_steps.specs.Answers.{disposition_told, batch_answer_of}
 ghost use Rattle.script_answers.specs.CreationAnswers.{creation_to};
 
 use crate::fields;
-use session_creation::CreationAnswer;
+use session_creation::CreationRefusal;
 use session_lifecycle::lifecycle::{ShellTransitionDisposition, ShellTransitionResult};
 use session_steps::answers::{
     ProjectionPatchApplicationDisposition, ProjectionPatchApplicationResult,
 };
 
-pub fn print_creation(out: &mut [u8], at: Option<usize>, answer: CreationAnswer) -> Option<usize>
+pub fn print_creation(out: &mut [u8], at: Option<usize>, answer: Result<(), CreationRefusal>) -> Option<usize>
     ensures { (c : Creation) → answer ≡ creation_to c → Prints out.old at (creation_line c) out.new result }
 {
     match answer {
-        CreationAnswer::Created => listing_lines::print_number_line(out, at, 83, 0),
-        CreationAnswer::Refused(refusal) => {
+        Ok(()) => listing_lines::print_number_line(out, at, 83, 0),
+        Err(refusal) => {
             listing_lines::print_number_line(out, at, 83, refusal.number())
         }
     }

@@ -1,5 +1,5 @@
 -- What the state of a replay stores, and what a line does: spec_replay's steps on the struct.
-use Rattle.std.specs.Prelude.{ℕ, ◌≡◌, Bool, true, false, List, Some}
+use Rattle.std.specs.Prelude.{ℕ, ◌≡◌, Bool, true, false, List, Some, Result, Ok, Err}
 use Rattle.std.proofs.Math.Option.{Option, none, some}
 use Rattle.spec_session.specs.Session.{Session}
 use Rattle.spec_replay.specs.Replay.{State, Step, onward, stops}
@@ -8,8 +8,7 @@ use Rattle.projection_patch.specs.Meaning.{edition_of}
 use Rattle.shell_player.specs.Holds.{Holds}
 use Rattle.shell_player.specs.declared.session.ShellSession.{ShellSession}
 use Rattle.session_creation.specs.Creation.{no_session_lem}
-use Rattle.session_creation.specs.declared.CreationAnswer.{CreationAnswer}
-use Rattle.session_creation.specs.declared.CreationAnswer.TheVariants.{Created, Refused}
+use Rattle.session_creation.specs.declared.CreationRefusal.{CreationRefusal}
 use Rattle.session_turns.specs.declared.SenderTurns.{SenderTurns}
 use Rattle.script_calls.specs.SetsUp.{SetsUp}
 use Rattle.script_calls.specs.TurnsHeld.{TurnsHeld}
@@ -46,6 +45,6 @@ with_latest s x = record { setup = s.setup; exists = s.exists; session = x; turn
 abbrev pub with_latest_turns : ReplayState → SenderTurns → ReplayState
 with_latest_turns s t = record { setup = s.setup; exists = s.exists; session = s.session; turns = t; edition = s.edition }
 
-unfoldable pub is_created : CreationAnswer → Bool
-is_created Created = true
-is_created (Refused r) = false
+unfoldable pub is_created : Result (Unit {0}) CreationRefusal → Bool
+is_created (Ok u) = true
+is_created (Err r) = false

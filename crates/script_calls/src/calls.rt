@@ -14,7 +14,7 @@ use crate::setup::ReplaySetup;
 use crate::state;
 use crate::state::{ReplayState, ReplayStep};
 use script_answers::session;
-use session_creation::{CreationAnswer, ShellSessionCreation};
+use session_creation::{CreationRefusal, ShellSessionCreation};
 use session_gates::gates::OrderedProjectionPatchBatchEnvelope;
 use session_lifecycle::lifecycle::ShellTransitionInput;
 
@@ -67,12 +67,12 @@ pub fn apply_batch(
     state::no_session(state, out)
 }
 
-fn is_created(answer: CreationAnswer) -> bool
+fn is_created(answer: Result<(), CreationRefusal>) -> bool
     ensures { result ≡ is_created answer }
 {
     match answer {
-        CreationAnswer::Created => true,
-        CreationAnswer::Refused(_) => false,
+        Ok(()) => true,
+        Err(_) => false,
     }
 }
 

@@ -1,5 +1,5 @@
 -- The answer of creation stands for the creation of the model.
-use Rattle.std.specs.Prelude.{ℕ, ◌≡◌, refl, Bool, ◌&&◌, length, if◌then◌else◌}
+use Rattle.std.specs.Prelude.{ℕ, ◌≡◌, refl, Bool, ◌&&◌, length, if◌then◌else◌, Ok, Err}
 use Rattle.std.proofs.Common.{sym}
 use Rattle.std.proofs.Math.Path.{ap, ap₂, subst}
 use Rattle.std.proofs.Math.Bool.{true, false}
@@ -21,7 +21,6 @@ use Rattle.active_projection_target_catalog.specs.declared.catalog.BindingPair.{
 use Rattle.local_projection_state.specs.StoresLaws.{some_state}
 use Rattle.shell_player.specs.declared.session.ShellSession.{ShellSession}
 use Rattle.session_creation.specs.declared.CreationRefusal.TheVariants.{AnchorsOverCapacity}
-use Rattle.session_creation.specs.declared.CreationAnswer.TheVariants.{Created, Refused}
 use Rattle.session_creation.specs.declared.ShellSessionCreation.{ShellSessionCreation}
 use Rattle.shell_player.specs.Holds.{Holds}
 use Rattle.shell_player.specs.Steps.{new_state}
@@ -53,20 +52,20 @@ module _ (id : ℕ) (limits : ShellLifecycleLimits) (nodes : List ℕ) (ps : Lis
   -- creation on the array of the pairs, zeros behind them, is the creation of the model
   pub creates : Creates (create id (limits_of limits) listed) (creation_with id limits nodes (padded_pairs no_pair ps) (length ps) collections)
   unfolding Creates creation_with create
-  creates = subst (λ (t : Bool). Creates (create id (limits_of limits) listed) (if t then record { answer = Created; session = fresh_session id limits nodes (padded_pairs no_pair ps) (length ps) collections } else record { answer = Refused AnchorsOverCapacity; session = no_session_lem })) same_fit (go (anchors_fit listed) refl)
+  creates = subst (λ (t : Bool). Creates (create id (limits_of limits) listed) (if t then record { answer = Ok tt; session = fresh_session id limits nodes (padded_pairs no_pair ps) (length ps) collections } else record { answer = Err AnchorsOverCapacity; session = no_session_lem })) same_fit (go (anchors_fit listed) refl)
     where
       go : (t : Bool) → anchors_fit listed ≡ t
-          → Creates (if t then model.made (new_session id (limits_of limits) listed) else model.refused model.too_many_anchors) (if t then record { answer = Created; session = fresh_session id limits nodes (padded_pairs no_pair ps) (length ps) collections } else record { answer = Refused AnchorsOverCapacity; session = no_session_lem })
+          → Creates (if t then model.made (new_session id (limits_of limits) listed) else model.refused model.too_many_anchors) (if t then record { answer = Ok tt; session = fresh_session id limits nodes (padded_pairs no_pair ps) (length ps) collections } else record { answer = Err AnchorsOverCapacity; session = no_session_lem })
       go true f = (refl, fresh_holds f)
       go false f = (refl, refl)
 
 -- ---- what the code hands back
 
 module _ (id : ℕ) (limits : ShellLifecycleLimits) (nodes : List ℕ) (pairs : List BindingPair) (given : ℕ) (collections : List ℕ) (s : ShellSession) where
-  pub refused_creation : anchors_within (length nodes) given (length collections) ≡ false → s ≡ no_session_lem → ◌≡◌ {A = ShellSessionCreation} (record { answer = Refused AnchorsOverCapacity; session = s }) (creation_with id limits nodes pairs given collections)
+  pub refused_creation : anchors_within (length nodes) given (length collections) ≡ false → s ≡ no_session_lem → ◌≡◌ {A = ShellSessionCreation} (record { answer = Err AnchorsOverCapacity; session = s }) (creation_with id limits nodes pairs given collections)
   unfolding creation_with
   refused_creation w e = rw (w, e)
 
-  pub made_creation : anchors_within (length nodes) given (length collections) ≡ true → s ≡ fresh_session id limits nodes pairs given collections → ◌≡◌ {A = ShellSessionCreation} (record { answer = Created; session = s }) (creation_with id limits nodes pairs given collections)
+  pub made_creation : anchors_within (length nodes) given (length collections) ≡ true → s ≡ fresh_session id limits nodes pairs given collections → ◌≡◌ {A = ShellSessionCreation} (record { answer = Ok tt; session = s }) (creation_with id limits nodes pairs given collections)
   unfolding creation_with
   made_creation w e = rw (w, e)

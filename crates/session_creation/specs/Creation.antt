@@ -1,5 +1,5 @@
 -- Creation: 01, 'Rejections born of the input' (13) and 'Sizes'.
-use Rattle.std.specs.Prelude.{ℕ, ◌≡◌, Bool, ◌&&◌, List, [], map, leb, length, if◌then◌else◌}
+use Rattle.std.specs.Prelude.{ℕ, ◌≡◌, Bool, ◌&&◌, List, [], map, leb, length, if◌then◌else◌, Ok, Err}
 use Rattle.spec_patch.specs.Sizes.{anchors}
 use Rattle.spec_projection.specs.Projection.{empty}
 use Rattle.spec_session.specs.Session as model
@@ -11,7 +11,6 @@ use Rattle.active_projection_target_catalog.specs.declared.catalog.BindingPair.{
 use Rattle.local_projection_state.specs.Stores.{stored_state}
 use Rattle.shell_player.specs.declared.session.ShellSession.{ShellSession}
 use Rattle.session_creation.specs.declared.CreationRefusal.TheVariants.{AnchorsOverCapacity}
-use Rattle.session_creation.specs.declared.CreationAnswer.TheVariants.{Created, Refused}
 use Rattle.session_creation.specs.declared.ShellSessionCreation.{ShellSessionCreation}
 use Rattle.shell_player.specs.Holds.{Holds}
 use Rattle.shell_player.specs.Steps.{new_state}
@@ -46,8 +45,8 @@ fresh_session id limits nodes pairs given collections =
 unfoldable pub creation_with : ℕ → ShellLifecycleLimits → List ℕ → List BindingPair → ℕ → List ℕ → ShellSessionCreation
 creation_with id limits nodes pairs given collections =
     if anchors_within (length nodes) given (length collections)
-    then record { answer = Created; session = fresh_session id limits nodes pairs given collections }
-    else record { answer = Refused AnchorsOverCapacity; session = no_session_lem }
+    then record { answer = Ok tt; session = fresh_session id limits nodes pairs given collections }
+    else record { answer = Err AnchorsOverCapacity; session = no_session_lem }
 
 -- the anchors in the model
 abbrev pub catalogue_from : List ℕ → List BindingPair → List ℕ → model.Catalogue
@@ -55,5 +54,5 @@ catalogue_from nodes pairs collections = record { nodes = nodes; bindings = map 
 
 -- an answer stands for a creation: its session is stored, or there is none
 unfoldable pub Creates : model.Creation → ShellSessionCreation → Type 0
-Creates (model.made m) r = (r.answer ≡ Created) × Holds r.session m
-Creates (model.refused f) r = (r.answer ≡ Refused AnchorsOverCapacity) × (r.session ≡ no_session_lem)
+Creates (model.made m) r = (r.answer ≡ Ok tt) × Holds r.session m
+Creates (model.refused f) r = (r.answer ≡ Err AnchorsOverCapacity) × (r.session ≡ no_session_lem)

@@ -31,16 +31,10 @@ impl CreationRefusal {
     }
 }
 
-#[derive(Clone, Copy)]
-pub enum CreationAnswer {
-    Created,
-    Refused(CreationRefusal),
-}
-
 // The session, which stands for none where creation was refused.
 #[derive(Drop)]
 pub struct ShellSessionCreation {
-    pub answer: CreationAnswer,
+    pub answer: Result<(), CreationRefusal>,
     pub session: ShellSession,
 }
 
@@ -48,13 +42,9 @@ pub struct ShellSessionCreation {
 fn anchors_within(nodes: usize, pairs: usize, collections: usize) -> bool
     ensures { result ≡ anchors_within nodes pairs collections }
 {
-    if ActiveProjectionTargetCatalog::ANCHORS < nodes {
-        return false;
-    }
-    if ActiveProjectionTargetCatalog::ANCHORS < pairs {
-        return false;
-    }
-    collections <= ActiveProjectionTargetCatalog::ANCHORS
+    nodes <= ActiveProjectionTargetCatalog::ANCHORS
+        && pairs <= ActiveProjectionTargetCatalog::ANCHORS
+        && collections <= ActiveProjectionTargetCatalog::ANCHORS
 }
 
 // What stands in the place of a session where there is none: id 0, Closed, limits 0, no anchors, an empty projection.
@@ -104,12 +94,12 @@ pub fn create_shell_session(
             catalog: ActiveProjectionTargetCatalog::from_snapshot(nodes, pairs, given, collections),
         };
         return ShellSessionCreation {
-            answer: CreationAnswer::Created,
+            answer: Ok(()),
             session: ShellSession::new(context),
         };
     }
     ShellSessionCreation {
-        answer: CreationAnswer::Refused(CreationRefusal::AnchorsOverCapacity),
+        answer: Err(CreationRefusal::AnchorsOverCapacity),
         session: no_session(),
     }
 }

@@ -22,14 +22,14 @@ use Rattle.panel_plan.specs.Resolved.{Resolution, resolved_entry, resolving, res
 use Rattle.panel_plan.specs.SetValues.{value_in}
 use Rattle.local_projection_state.specs.declared.ProjectionCounts.{ProjectionCounts}
 use Rattle.panel_steps.specs.Runs.{RunWalked, PlannedAs, patch_index, operation_index, HaltsAt, RunTold}
-use Rattle.panel_steps.specs.declared.PlanRun.{PlanRun}
-use Rattle.panel_steps.specs.declared.PlanRun.TheVariants as plan
+use Rattle.panel_steps.specs.declared.PlanStop.{PlanStop}
+use Rattle.panel_steps.specs.declared.PlanStop.TheVariants as plan
 use Rattle.local_projection_state.specs.declared.LocalProjectionApplicationError.{LocalProjectionApplicationError}
 use Rattle.projection_patch.specs.declared.read_values.ProjectionPatchReadFault.{ProjectionPatchReadFault}
 use Rattle.session_explain.specs.Reasons.{operation_rule_to}
 use Rattle.session_explain.specs.Refused.{StandsFor, reason_refused_to}
 use Rattle.std.specs.Prelude as code
-use Rattle.std.specs.Prelude.{Result, Ok}
+use Rattle.std.specs.Prelude.{Result, Ok, Err}
 use Rattle.session_explain.specs.declared.reasons.OperationRule.{OperationRule}
 
 -- ---- values are not looked at
@@ -68,27 +68,27 @@ module _ {ed : Edition} {set : List ℕ} {count : ℕ} {c : SetCursor} {h : Halt
 
 -- ---- what a run answers
 
-module _ {ed : Edition} {p : Projection} {ps : List Patch} {set b a e : List ℕ} {r : PlanRun} (told : RunTold ed p ps set b a e r) where
+module _ {ed : Edition} {p : Projection} {ps : List Patch} {set b a e : List ℕ} {r : Result ProjectionCounts PlanStop} (told : RunTold ed p ps set b a e r) where
   abbrev whole : Walk Projection
   whole = walk_patches step_kept 0 p ps
 
-  abbrev Walked : PlanRun → Walk Projection → Type 0
+  abbrev Walked : Result ProjectionCounts PlanStop → Walk Projection → Type 0
   Walked = RunWalked (PlannedAs ed p set b a e) (HaltsAt ed set (length ps))
 
-  pub explained_applies : (n : ProjectionCounts) → r ≡ plan.Planned n → Ok code.None ≡ reason_refused_to whole
+  pub explained_applies : (n : ProjectionCounts) → r ≡ Ok n → Ok code.None ≡ reason_refused_to whole
   explained_applies n is = go whole (subst (λ y. Walked y whole) is told.walked)
     where
-      go : (w : Walk Projection) → Walked (plan.Planned n) w → Ok code.None ≡ reason_refused_to w
+      go : (w : Walk Projection) → Walked (Ok n) w → Ok code.None ≡ reason_refused_to w
       go (through q) t = refl
       go (halted h) t = absurd t
 
-  pub walked_halts : (f : LocalProjectionApplicationError) (c : SetCursor) (n : ProjectionCounts) → r ≡ plan.Refused f c n → (y : Result (code.Option (ℕ × ℕ × OperationRule)) ProjectionPatchReadFault)
+  pub walked_halts : (f : LocalProjectionApplicationError) (c : SetCursor) (n : ProjectionCounts) → r ≡ Err (plan.Refused f c n) → (y : Result (code.Option (ℕ × ℕ × OperationRule)) ProjectionPatchReadFault)
       → ((h : Halt Projection) → HaltsAt ed set (length ps) c h → StandsFor n.entries e h.left → y ≡ reason_refused_to (halted h)) → y ≡ reason_refused_to whole
   walked_halts f c n is y at = go whole (subst (λ z. Walked z whole) is told.walked)
     where
-      go : (w : Walk Projection) → Walked (plan.Refused f c n) w → y ≡ reason_refused_to w
+      go : (w : Walk Projection) → Walked (Err (plan.Refused f c n)) w → y ≡ reason_refused_to w
       go (through q) t = absurd t
       go (halted h) t = at h t.1 (record { plan = t.0.plan; stored = t.0.stored.entries; valid = t.0.stored.valid; sources = resolution p (value_in ed set); resolves = t.0.resolves })
 
-  pub explained_reads : (f : ProjectionPatchReadFault) → r ≡ plan.Unreadable f → ⊥
+  pub explained_reads : (f : ProjectionPatchReadFault) → r ≡ Err (plan.Unreadable f) → ⊥
   explained_reads f is = subst (λ z. Walked z whole) is told.walked

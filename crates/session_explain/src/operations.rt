@@ -21,7 +21,7 @@ use crate::rules;
 use bytes_records::moves;
 use local_projection_state::{LocalProjectionState, ProjectionCounts};
 use panel_plan::fill;
-use panel_steps::PlanRun;
+use panel_steps::PlanStop;
 use patch_walk::{SetCursor, SetStep};
 use projection_patch::patch::ProjectionPatchEdition;
 use projection_patch::read_values::ProjectionPatchReadFault;
@@ -73,16 +73,18 @@ fn refused_from(
         → result ≡ reason_refused_to (walk_patches step_kept 0 p ps) }
 {
     match panel_steps::plan_steps(bindings, availability, entries, counts, set, edition, from) {
-        PlanRun::Planned(_) => Ok(None),
-        PlanRun::Refused(_, cursor, held) => refused_at(
-            entries,
-            held.entries,
-            set,
-            edition,
-            from.patches_left,
-            cursor,
-        ),
-        PlanRun::Unreadable(fault) => Err(fault),
+        Ok(_) => Ok(None),
+        Err(stop) => match stop {
+            PlanStop::Refused { cursor, held, .. } => refused_at(
+                entries,
+                held.entries,
+                set,
+                edition,
+                from.patches_left,
+                cursor,
+            ),
+            PlanStop::Unreadable(fault) => Err(fault),
+        },
     }
 }
 

@@ -1,4 +1,5 @@
 -- What a batch on lent slices answers and leaves. The slices that it reads stay by their type; those that it writes to are told.
+use Rattle.std.specs.Prelude as code
 use Rattle.std.specs.Prelude.{Option, Some, None}
 use Rattle.std.specs.Prelude.{ℕ, ◌≡◌, Bool, true, false, ◌&&◌, List, eqb, length}
 use Rattle.spec_patch.specs.Edition.{Edition}
@@ -8,8 +9,8 @@ use Rattle.spec_session.specs.Batch.{BatchStep, BatchEnvelope, refuse, batch}
 use Rattle.panel_rows.specs.Rows.{length_bytes}
 use Rattle.session_gates.specs.Gates.{preflight_by}
 use Rattle.panel_changes.specs.PlanMemory.{PlanTables, ClearPlan}
-use Rattle.panel_changes.specs.declared.SetChange.{SetChange}
-use Rattle.panel_changes.specs.declared.SetChange.TheVariants as change
+use Rattle.local_projection_state.specs.declared.ProjectionCounts.{ProjectionCounts}
+use Rattle.panel_changes.specs.declared.SetRefusal.{SetRefusal}
 use Rattle.session_steps.specs.Answers.{batch_answer_of, rejected_at, AnswerRow}
 use Rattle.session_steps.specs.declared.answers.ProjectionPatchApplicationDisposition.{ProjectionPatchApplicationDisposition}
 use Rattle.session_steps.specs.declared.answers.ProjectionPatchApplicationDisposition.TheVariants.{Applied, NoChange, Rejected}
@@ -23,11 +24,9 @@ abbrev pub SameHalf : (h b a e l h' b' a' e' l' : List ℕ) → Type 0
 SameHalf h b a e l h' b' a' e' l' = (h' ≡ h) × ((b' ≡ b) × ((a' ≡ a) × ((e' ≡ e) × (l' ≡ l))))
 
 -- a set that is not applied leaves the half that it was to be written to
-abbrev pub KeptUnlessChanged : SetChange → (h b a e l h' b' a' e' l' : List ℕ) → Type 0
-KeptUnlessChanged (change.Applied n) h b a e l h' b' a' e' l' = Unit {0}
-KeptUnlessChanged (change.Refused f) h b a e l h' b' a' e' l' = SameHalf h b a e l h' b' a' e' l'
-KeptUnlessChanged (change.Unreadable f) h b a e l h' b' a' e' l' = SameHalf h b a e l h' b' a' e' l'
-KeptUnlessChanged change.BadTables h b a e l h' b' a' e' l' = SameHalf h b a e l h' b' a' e' l'
+abbrev pub KeptUnlessChanged : code.Result ProjectionCounts SetRefusal → (h b a e l h' b' a' e' l' : List ℕ) → Type 0
+KeptUnlessChanged (code.Ok n) h b a e l h' b' a' e' l' = Unit {0}
+KeptUnlessChanged (code.Err f) h b a e l h' b' a' e' l' = SameHalf h b a e l h' b' a' e' l'
 
 -- ---- the step of a session that is held
 

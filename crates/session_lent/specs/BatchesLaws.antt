@@ -1,4 +1,5 @@
 -- What a batch on lent slices answers and leaves is what the batch of the model answers and leaves.
+use Rattle.std.specs.Prelude as code
 use Rattle.std.specs.Prelude.{ℕ, ◌≤◌, ◌≡◌, refl, Bool, true, ◌&&◌, eqb}
 use Rattle.std.proofs.Common.{sym, ◌∙◌, arith}
 use Rattle.std.proofs.Math.Path.{ap, ap₂, subst}
@@ -24,8 +25,8 @@ use Rattle.local_projection_state.specs.Stores.{StoredTables, counts_of}
 use Rattle.local_projection_state.specs.declared.ProjectionCounts.{ProjectionCounts}
 use Rattle.panel_changes.specs.SetChanges.{tables_fit, change_counts_fit, StoredAfter, ChangeBecame, TablesKeptUnlessApplied}
 use Rattle.panel_changes.specs.SetChangesLaws.{table_lengths_fit, stored_lengths, stored_counts}
-use Rattle.panel_changes.specs.declared.SetChange.{SetChange}
-use Rattle.panel_changes.specs.declared.SetChange.TheVariants as change
+use Rattle.panel_changes.specs.declared.SetRefusal.{SetRefusal}
+use Rattle.panel_changes.specs.declared.SetRefusal.TheVariants as change
 use Rattle.session_gates.specs.Gates.{erased, preflight_by}
 use Rattle.session_gates.proofs.ErasedLaws.{erased_refused, erased_passed}
 use Rattle.session_gates.specs.Seen.{Seen}
@@ -92,34 +93,30 @@ unchanged_not a c is k = let z : no_change ≡ applied = sym (ap (λ (x : BatchA
 
 -- ---- a set that is not applied leaves the other half
 
-pub kept_change : (u : SetChange) (h b a e l h' b' a' e' l' : List ℕ) (cap n : ℕ) (c : Cursor) (r : ProjectionPatchApplicationResult) → KeptUnlessChanged u h b a e l h' b' a' e' l' → batch_answer_of r ≡ change_answer cap c n u
+pub kept_change : (u : code.Result ProjectionCounts SetRefusal) (h b a e l h' b' a' e' l' : List ℕ) (cap n : ℕ) (c : Cursor) (r : ProjectionPatchApplicationResult) → KeptUnlessChanged u h b a e l h' b' a' e' l' → batch_answer_of r ≡ change_answer cap c n u
     → (r.disposition ≡ Applied → ⊥) → SameHalf h b a e l h' b' a' e' l'
 unfolding change_answer
-kept_change (change.Applied k) h b a e l h' b' a' e' l' cap n c r kept is not = absurd (not (applied_told r.disposition (ap (λ (x : BatchAnswer). x.disposition) is)))
-kept_change (change.Refused f) h b a e l h' b' a' e' l' cap n c r kept is not = kept
-kept_change (change.Unreadable f) h b a e l h' b' a' e' l' cap n c r kept is not = kept
-kept_change change.BadTables h b a e l h' b' a' e' l' cap n c r kept is not = kept
+kept_change (code.Ok k) h b a e l h' b' a' e' l' cap n c r kept is not = absurd (not (applied_told r.disposition (ap (λ (x : BatchAnswer). x.disposition) is)))
+kept_change (code.Err f) h b a e l h' b' a' e' l' cap n c r kept is not = kept
 
 -- ---- what came of a set, told with the head
 
-pub stopped_became : (P Q : ProjectionCounts → Projection → Type 0) (u : SetChange) (x : Outcome) → Stopped u → ChangeBecame P u x → ChangeBecame Q u x
-stopped_became P Q (change.Applied n) x stop k = absurd stop
-stopped_became P Q (change.Refused f) (done q) stop k = k
-stopped_became P Q (change.Refused f) (stopped g) stop k = k
-stopped_became P Q (change.Unreadable f) x stop k = k
-stopped_became P Q change.BadTables x stop k = k
+pub stopped_became : (P Q : ProjectionCounts → Projection → Type 0) (u : code.Result ProjectionCounts SetRefusal) (x : Outcome) → Stopped u → ChangeBecame P u x → ChangeBecame Q u x
+stopped_became P Q (code.Ok n) x stop k = absurd stop
+stopped_became P Q (code.Err (change.Operation f)) (done q) stop k = k
+stopped_became P Q (code.Err (change.Operation f)) (stopped g) stop k = k
+stopped_became P Q (code.Err (change.Unreadable f)) x stop k = k
+stopped_became P Q (code.Err change.BadTables) x stop k = k
 
-pub stopped_kept : (u : SetChange) (to b a e l b' a' e' l' : List ℕ) → Stopped u → TablesKeptUnlessApplied u b a e l b' a' e' l' → KeptUnlessChanged u to b a e l to b' a' e' l'
-stopped_kept (change.Applied n) to b a e l b' a' e' l' stop k = absurd stop
-stopped_kept (change.Refused f) to b a e l b' a' e' l' stop k = (refl, k)
-stopped_kept (change.Unreadable f) to b a e l b' a' e' l' stop k = (refl, k)
-stopped_kept change.BadTables to b a e l b' a' e' l' stop k = (refl, k)
+pub stopped_kept : (u : code.Result ProjectionCounts SetRefusal) (to b a e l b' a' e' l' : List ℕ) → Stopped u → TablesKeptUnlessApplied u b a e l b' a' e' l' → KeptUnlessChanged u to b a e l to b' a' e' l'
+stopped_kept (code.Ok n) to b a e l b' a' e' l' stop k = absurd stop
+stopped_kept (code.Err f) to b a e l b' a' e' l' stop k = (refl, k)
 
 -- a set that was applied, and the head that was written then
-pub applied_became : (P : ProjectionCounts → Projection → Type 0) (H : ProjectionCounts → Type 0) (u : SetChange) (n : ProjectionCounts) (x : Outcome) → u ≡ change.Applied n → H n → ChangeBecame P u x → ChangeBecame (λ k q. H k × P k q) (change.Applied n) x
+pub applied_became : (P : ProjectionCounts → Projection → Type 0) (H : ProjectionCounts → Type 0) (u : code.Result ProjectionCounts SetRefusal) (n : ProjectionCounts) (x : Outcome) → u ≡ code.Ok n → H n → ChangeBecame P u x → ChangeBecame (λ k q. H k × P k q) (code.Ok n) x
 applied_became P H u n x is moved became = go x (subst (λ w. ChangeBecame P w x) is became)
   where
-    go : (y : Outcome) → ChangeBecame P (change.Applied n) y → ChangeBecame (λ k q. H k × P k q) (change.Applied n) y
+    go : (y : Outcome) → ChangeBecame P (code.Ok n) y → ChangeBecame (λ k q. H k × P k q) (code.Ok n) y
     go (done q) k = (moved, k)
     go (stopped f) k = k
 
@@ -199,12 +196,12 @@ module _ (head nodes pairs collections b a e : List ℕ) (limits : ShellLifecycl
             go (q ∷ qs) c = absurd (omega arith)
 
         -- what came of the operations
-        pub commits : (u : SetChange) → (v.patches ≡ 0 → ⊥) → ChangeBecame (λ n q. (h' ≡ moved_head head v.sequence n) × StoredAfter n b' a' e' l' q) u (candidate m ps) → batch_answer_of r ≡ change_answer cap cursor v.sequence u → StepHere (commit m v (candidate m ps))
+        pub commits : (u : code.Result ProjectionCounts SetRefusal) → (v.patches ≡ 0 → ⊥) → ChangeBecame (λ n q. (h' ≡ moved_head head v.sequence n) × StoredAfter n b' a' e' l' q) u (candidate m ps) → batch_answer_of r ≡ change_answer cap cursor v.sequence u → StepHere (commit m v (candidate m ps))
         unfolding commit apply_batch advanced change_answer
         commits u some became h = go u (candidate m ps) became h
           where
-            go : (w : SetChange) (x : Outcome) → ChangeBecame (λ n q. (h' ≡ moved_head head v.sequence n) × StoredAfter n b' a' e' l' q) w x → batch_answer_of r ≡ change_answer cap cursor v.sequence w → StepHere (commit m v x)
-            go (change.Applied n) (done q) stored h =
+            go : (w : code.Result ProjectionCounts SetRefusal) (x : Outcome) → ChangeBecame (λ n q. (h' ≡ moved_head head v.sequence n) × StoredAfter n b' a' e' l' q) w x → batch_answer_of r ≡ change_answer cap cursor v.sequence w → StepHere (commit m v x)
+            go (code.Ok n) (done q) stored h =
                 let counted = counts_stored n b' a' e' q stored.1.0 in
                 rw (ne_eqb v.patches 0 some) (
                 record {
@@ -220,11 +217,11 @@ module _ (head nodes pairs collections b a e : List ℕ) (limits : ShellLifecycl
                       );
                 }
                 )
-            go (change.Applied n) (stopped g) stored h = absurd stored
-            go (change.Refused f) (done q) stored h = absurd stored
-            go (change.Refused f) (stopped g) stored h = rejects (of_operation g) 1 (h ∙ ap (λ k. rejected_at cap (of_operation k) 1 cursor) stored)
-            go (change.Unreadable f) x stored h = absurd stored
-            go change.BadTables x stored h = absurd stored
+            go (code.Ok n) (stopped g) stored h = absurd stored
+            go (code.Err (change.Operation f)) (done q) stored h = absurd stored
+            go (code.Err (change.Operation f)) (stopped g) stored h = rejects (of_operation g) 1 (h ∙ ap (λ k. rejected_at cap (of_operation k) 1 cursor) stored)
+            go (code.Err (change.Unreadable f)) x stored h = absurd stored
+            go (code.Err change.BadTables) x stored h = absurd stored
 
       module _ (ed : Edition) (v : BatchEnvelope) (declared : ℕ) (set : List ℕ) where
         pub lent_batch_rejects : (f : SessionRefusal) (n : ℕ) → refuse f n ≡ erased (batch_checks ed m v declared set) → batch_answer_of r ≡ rejected_at cap f n cursor → StepHere (batch ed m v declared set)

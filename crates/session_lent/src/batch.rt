@@ -14,11 +14,11 @@ ghost use Rattle.session_lent.specs.LentSession.{half_shaped, LentRoom};
 ghost use Rattle.session_lent.specs.Batches.{KeptUnlessChanged, ShapedCall, BatchCallOnSlices, PlanGivenBack};
 
 use crate::{head, shape};
-use local_projection_state::LocalProjectionState;
-use panel_changes::SetChange;
+use local_projection_state::{LocalProjectionState, ProjectionCounts};
+use panel_changes::SetRefusal;
 use projection_patch::patch::ProjectionPatchEdition;
 use session_gates::batch;
-use session_gates::gates::{GateRefusal, OrderedProjectionPatchBatchEnvelope};
+use session_gates::gates::OrderedProjectionPatchBatchEnvelope;
 use session_steps::answers::ProjectionPatchApplicationResult;
 use session_steps::{answers, checks};
 
@@ -39,7 +39,7 @@ fn commit<'a>(
     plan_bindings: &mut [u8; panel_plan::BINDING_BYTES],
     plan_availability: &mut [u8; LocalProjectionState::AVAILABILITY_BYTES],
     plan_entries: &mut [u8; panel_plan::ENTRY_BYTES],
-) -> SetChange
+) -> Result<ProjectionCounts, SetRefusal>
     requires { (length head.now ≡ head_numbers) × (length to_head.old ≡ head_numbers) }
     ensures changed { (p : Projection) (ps : List Patch) → StoredTables (counts_at head.now) bindings.now availability.now entries.now p
         → read_set (edition_of edition) set.now ≡ patches ps → LentRoom to_head.old to_bindings.old to_availability.old to_entries.old to_lengths.old
@@ -67,11 +67,13 @@ fn commit<'a>(
         plan_availability,
         plan_entries,
     );
-    let SetChange::Applied(next) = change else {
-        return change;
-    };
-    head::store_moved(head, sequence_no, next, to_head);
-    change
+    match change {
+        Ok(next) => {
+            head::store_moved(head, sequence_no, next, to_head);
+            Ok(next)
+        }
+        Err(refused) => Err(refused),
+    }
 }
 
 // One batch on memory of the right shape.
@@ -120,8 +122,8 @@ pub fn apply_shaped<'a>(
         set,
         edition,
     );
-    if let Err(GateRefusal { refusal, logical }) = gate {
-        return answers::rejected(cap, refusal, logical, cursor);
+    if let Err(refused) = gate {
+        return answers::rejected(cap, refused.refusal, refused.logical, cursor);
     }
     if checks::is_empty(envelope) {
         return answers::unchanged(cursor);

@@ -4,7 +4,6 @@ use Rattle.std.specs.Prelude.{Option, Some, Result, Ok, Err}
 use Rattle.std.specs.Prelude.{◌≡◌, List, ℕ}
 use Rattle.spec_session.specs.Session.{Session}
 use Rattle.session_creation.specs.declared.CreationRefusal.TheVariants.{AnchorsOverCapacity}
-use Rattle.session_creation.specs.declared.CreationAnswer.TheVariants.{Created, Refused}
 use Rattle.session_creation.specs.declared.ShellSessionCreation.{ShellSessionCreation}
 use Rattle.shell_player.specs.Holds.{Holds}
 use Rattle.shell_player.specs.declared.session.ShellTransition.{ShellTransition}
@@ -18,8 +17,8 @@ use Rattle.session_lent_laws.specs.Memory.{Memory, Panel, struct_in}
 
 -- creation in slices that a session can be made in: both make it, or both tell 13
 abbrev pub CreationAlike : Result (Unit {0}) LentCreationRefusal → Anchors → Half → ShellSessionCreation → Type 0
-CreationAlike (Ok u) k h r = (r.answer ≡ Created) × ((r.session ≡ struct_in k h) × ((m : Session) × (Holds r.session m × HeldIn k h m)))
-CreationAlike (Err creation.AnchorsOverCapacity) k h r = r.answer ≡ Refused AnchorsOverCapacity
+CreationAlike (Ok u) k h r = (r.answer ≡ Ok tt) × ((r.session ≡ struct_in k h) × ((m : Session) × (Holds r.session m × HeldIn k h m)))
+CreationAlike (Err creation.AnchorsOverCapacity) k h r = r.answer ≡ Err AnchorsOverCapacity
 CreationAlike (Err creation.NoSession) k h r = ⊥
 
 -- the half with another head

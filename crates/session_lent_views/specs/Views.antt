@@ -23,7 +23,7 @@ use Rattle.session_lent.specs.Head.{counts_at}
 use Rattle.session_lent.specs.LentSession.{LentSession, half_shaped, table_shaped, bindings_shaped, availabilities_shaped, entries_shaped}
 use Rattle.panel_rows.specs.declared.values.AvailabilityLookup.{AvailabilityLookup}
 use Rattle.patch_part_writer.specs.declared.written.WriteRefusal.{WriteRefusal}
-use Rattle.panel_page.specs.declared.PageAnswer.{PageAnswer}
+use Rattle.panel_page.specs.declared.PageRefusal.{PageRefusal}
 
 -- ---- slices that hold a session, told by those that a call is lent
 
@@ -120,7 +120,7 @@ PrintCall head entries collection out r out' =
     (λ m w. (w ≡ print_answer out (collection_print m.projection collection)) × (out' ≡ overwrite out 0 (collection_print m.projection collection))) out r out'
 
 -- a page of keys: a row for each, or 16 or 14
-abbrev pub PageCall : (head entries : List ℕ) (collection : ℕ) (keys out : List ℕ) → Option PageAnswer → List ℕ → Type 0
+abbrev pub PageCall : (head entries : List ℕ) (collection : ℕ) (keys out : List ℕ) → Option (Result ℕ PageRefusal) → List ℕ → Type 0
 PageCall head entries collection keys out r out' =
     ViewWritten (entries_shaped head (length entries)) (HoldsEntries head entries) (λ w. (w ≡ page_answer (length keys) (page_refusal (length keys) (length out / page_width))) × page.OtherPlacesKept out out' w)
     (λ m w. (w ≡ page_answer (length keys) (page_refusal (length keys) (length out / page_width))) × (out' ≡ table_left (page_refusal (length keys) (length out / page_width)) (page_bytes m.projection collection keys) out)) out r out'

@@ -2,7 +2,7 @@
 ghost use Rattle.session_lent_views.specs.Views.{PageCall};
 
 use crate::tables;
-use panel_page::PageAnswer;
+use panel_page::PageRefusal;
 
 // One row for each key of a collection, in their order; none where the slices cannot hold a session. Places behind the last key stay; a refusal
 // and none leave every byte.
@@ -12,7 +12,7 @@ pub fn collection_page(
     collection: u64,
     keys: &[u64],
     answers: &mut [u8],
-) -> Option<PageAnswer>
+) -> Option<Result<usize, PageRefusal>>
     ensures { PageCall head.now entries.now collection keys.now answers.old result answers.new }
 {
     let count = tables::entry_rows(head, entries.len())?;

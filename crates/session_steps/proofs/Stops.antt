@@ -1,18 +1,9 @@
--- A change of another variant than Applied stopped.
-use mathlib.Core.List.{[], ◌∷◌}
-use mathlib.Core.Logic.{inl, inr}
-use native.Mathlib.Omega.{arith}
-use types.Run.{OneOf}
-use denote.Enum.Declared.{tag_of}
-use Rattle.panel_changes.specs.contracts.SetChange.{the_type}
-use Rattle.panel_changes.specs.declared.SetChange.{SetChange}
-use Rattle.panel_changes.specs.declared.SetChange.TheVariants.{Applied, Refused, Unreadable, BadTables}
+-- A set that was refused stopped.
+use Rattle.std.specs.Prelude.{◌≡◌, Result, Err}
+use Rattle.std.proofs.Common.{sym, subst}
+use Rattle.local_projection_state.specs.declared.ProjectionCounts.{ProjectionCounts}
+use Rattle.panel_changes.specs.declared.SetRefusal.{SetRefusal}
 use Rattle.session_steps.specs.Answers.{Stopped}
 
-pub other_stopped : (r : SetChange) → OneOf (1 ∷ 2 ∷ 3 ∷ []) (tag_of the_type r) → Stopped r
-other_stopped (Applied n) (inl e) = absurd (omega arith)
-other_stopped (Applied n) (inr (inl e)) = absurd (omega arith)
-other_stopped (Applied n) (inr (inr e)) = absurd (omega arith)
-other_stopped (Refused e) k = tt
-other_stopped (Unreadable f) k = tt
-other_stopped BadTables k = tt
+pub refused_stopped : (r : Result ProjectionCounts SetRefusal) {f : SetRefusal} → r ≡ Err f → Stopped r
+refused_stopped r is = subst Stopped (sym is) tt

@@ -1,13 +1,15 @@
 -- What the answers of a batch stand for.
+use Rattle.std.specs.Prelude as code
 use Rattle.std.specs.Prelude.{ℕ, ◌≡◌, true}
 use Rattle.spec_session.specs.Session.{Cursor, at}
 use Rattle.spec_session.specs.Diagnostics.{SessionRefusal, malformed, of_operation, no_diagnostics, diagnostics_of}
 use Rattle.spec_session.specs.Lifecycle.{Disposition, applied, no_change, rejected}
 use Rattle.spec_session.specs.Batch.{BatchAnswer}
 use Rattle.session_lifecycle.specs.Meaning.{cursor_of, diagnostics_mean}
+use Rattle.local_projection_state.specs.declared.ProjectionCounts.{ProjectionCounts}
 use Rattle.local_projection_state.specs.Faults.{application_fault_of}
-use Rattle.panel_changes.specs.declared.SetChange.{SetChange}
-use Rattle.panel_changes.specs.declared.SetChange.TheVariants as change
+use Rattle.panel_changes.specs.declared.SetRefusal.{SetRefusal}
+use Rattle.panel_changes.specs.declared.SetRefusal.TheVariants as change
 use Rattle.session_gates.specs.Gates.{count_fits}
 use Rattle.session_steps.specs.declared.answers.ProjectionPatchApplicationDisposition.{ProjectionPatchApplicationDisposition}
 use Rattle.session_steps.specs.declared.answers.ProjectionPatchApplicationDisposition.TheVariants.{Applied, NoChange, Rejected}
@@ -30,18 +32,16 @@ abbrev pub answer_at : Disposition → Cursor → BatchAnswer
 answer_at d c = record { disposition = d; diagnostics = no_diagnostics; cursor = c }
 
 -- the answer of step 9, by what came of the operations
-unfoldable pub change_answer : ℕ → Cursor → ℕ → SetChange → BatchAnswer
-change_answer cap c n (change.Applied counts) = answer_at applied (at n)
-change_answer cap c n (change.Refused e) = rejected_at cap (of_operation (application_fault_of e)) 1 c
-change_answer cap c n (change.Unreadable f) = rejected_at cap malformed 1 c
-change_answer cap c n change.BadTables = rejected_at cap malformed 1 c
+unfoldable pub change_answer : ℕ → Cursor → ℕ → code.Result ProjectionCounts SetRefusal → BatchAnswer
+change_answer cap c n (code.Ok counts) = answer_at applied (at n)
+change_answer cap c n (code.Err (change.Operation e)) = rejected_at cap (of_operation (application_fault_of e)) 1 c
+change_answer cap c n (code.Err (change.Unreadable f)) = rejected_at cap malformed 1 c
+change_answer cap c n (code.Err change.BadTables) = rejected_at cap malformed 1 c
 
 -- the set was not applied
-abbrev pub Stopped : SetChange → Type 0
-Stopped (change.Applied counts) = ⊥
-Stopped (change.Refused e) = Unit {0}
-Stopped (change.Unreadable f) = Unit {0}
-Stopped change.BadTables = Unit {0}
+abbrev pub Stopped : code.Result ProjectionCounts SetRefusal → Type 0
+Stopped (code.Ok counts) = ⊥
+Stopped (code.Err f) = Unit {0}
 
 -- ---- the answers for every struct whatever
 

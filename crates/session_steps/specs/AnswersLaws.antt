@@ -1,4 +1,5 @@
 -- Laws of the answers of a batch.
+use Rattle.std.specs.Prelude as code
 use Rattle.std.specs.Prelude.{ℕ, ◌≡◌, refl, true}
 use Rattle.std.proofs.Common.{ap₂, arith}
 use Rattle.spec_projection.specs.Apply as applying
@@ -7,9 +8,10 @@ use Rattle.spec_session.specs.Session.{Cursor}
 use Rattle.spec_session.specs.Diagnostics.{SessionRefusal, malformed, of_operation}
 use Rattle.spec_session.specs.Lifecycle.{applied}
 use Rattle.spec_session.specs.Batch.{BatchAnswer, Check, refuse}
+use Rattle.local_projection_state.specs.declared.ProjectionCounts.{ProjectionCounts}
 use Rattle.local_projection_state.specs.Faults.{application_fault_of}
-use Rattle.panel_changes.specs.declared.SetChange.{SetChange}
-use Rattle.panel_changes.specs.declared.SetChange.TheVariants as change
+use Rattle.panel_changes.specs.declared.SetRefusal.{SetRefusal}
+use Rattle.panel_changes.specs.declared.SetRefusal.TheVariants as change
 use Rattle.session_gates.specs.Gates.{count_fits}
 use Rattle.session_steps.specs.declared.answers.ProjectionPatchApplicationDisposition.{ProjectionPatchApplicationDisposition}
 use Rattle.session_steps.specs.declared.answers.ProjectionPatchApplicationDisposition.TheVariants.{Applied, NoChange, Rejected}
@@ -29,12 +31,12 @@ operation_counted applying.key_rule = refl
 operation_counted applying.projection_full = refl
 
 -- whatever came of the operations, the answer has its row
-pub change_row : (limit : ℕ) (c : Cursor) (n : ℕ) (a : BatchAnswer) (s : SetChange) → a ≡ change_answer limit c n s → AnswerRow limit c n a
+pub change_row : (limit : ℕ) (c : Cursor) (n : ℕ) (a : BatchAnswer) (s : code.Result ProjectionCounts SetRefusal) → a ≡ change_answer limit c n s → AnswerRow limit c n a
 unfolding change_answer count_fits
-change_row limit c n a (change.Applied k) h = applied_row h
-change_row limit c n a (change.Refused f) h = rejected_row (of_operation (application_fault_of f)) 1 (operation_counted (application_fault_of f)) h
-change_row limit c n a (change.Unreadable f) h = rejected_row malformed 1 refl h
-change_row limit c n a change.BadTables h = rejected_row malformed 1 refl h
+change_row limit c n a (code.Ok k) h = applied_row h
+change_row limit c n a (code.Err (change.Operation f)) h = rejected_row (of_operation (application_fault_of f)) 1 (operation_counted (application_fault_of f)) h
+change_row limit c n a (code.Err (change.Unreadable f)) h = rejected_row malformed 1 refl h
+change_row limit c n a (code.Err change.BadTables) h = rejected_row malformed 1 refl h
 
 pub same_rejection : {f g : SessionRefusal} {n k : ℕ} (limit : ℕ) (c : Cursor) → ◌≡◌ {A = Check (Unit {0})} (refuse f n) (refuse g k) → rejected_at limit f n c ≡ rejected_at limit g k c
 same_rejection {f = f} {g = g} {n = n} {k = k} limit c e =

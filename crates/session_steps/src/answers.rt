@@ -7,8 +7,8 @@ ghost use Rattle.local_projection_state.specs.Faults.{application_fault_of};
 ghost use Rattle.session_lifecycle.specs.Meaning.{refusal_of, cursor_of};
 ghost use Rattle.session_steps.specs.Answers.{batch_answer_of, rejected_at, answer_at, change_answer};
 
-use local_projection_state::LocalProjectionApplicationError;
-use panel_changes::SetChange;
+use local_projection_state::{LocalProjectionApplicationError, ProjectionCounts};
+use panel_changes::SetRefusal;
 use session_lifecycle::diagnostics;
 use session_lifecycle::diagnostics::{ShellDiagnostics, ShellRefusal};
 use session_lifecycle::state::ProjectionReplayCursor;
@@ -74,16 +74,18 @@ fn applied_at(number: u64) -> ProjectionPatchApplicationResult
 // The answer of step 9, by what came of the operations.
 pub fn concluded(
     cap: u64,
-    change: SetChange,
+    change: Result<ProjectionCounts, SetRefusal>,
     cursor: ProjectionReplayCursor,
     number: u64,
 ) -> ProjectionPatchApplicationResult
     ensures { batch_answer_of result ≡ change_answer cap (cursor_of cursor) number change }
 {
     match change {
-        SetChange::Applied(_) => applied_at(number),
-        SetChange::Refused(error) => rejected(cap, refusal_of(error), 1, cursor),
-        SetChange::Unreadable(_) => rejected(cap, ShellRefusal::Malformed, 1, cursor),
-        SetChange::BadTables => rejected(cap, ShellRefusal::Malformed, 1, cursor),
+        Ok(_) => applied_at(number),
+        Err(refused) => match refused {
+            SetRefusal::Operation(error) => rejected(cap, refusal_of(error), 1, cursor),
+            SetRefusal::Unreadable(_) => rejected(cap, ShellRefusal::Malformed, 1, cursor),
+            SetRefusal::BadTables => rejected(cap, ShellRefusal::Malformed, 1, cursor),
+        },
     }
 }

@@ -5,7 +5,7 @@ ghost use Rattle.spec_page.specs.Page.{page_refusal, table_left};
 ghost use Rattle.panel_page.specs.PageTable.{page_width, page_bytes, page_answer, OtherPlacesKept};
 ghost use Rattle.shell_player.specs.Holds.{Holds};
 
-use panel_page::PageAnswer;
+use panel_page::PageRefusal;
 use shell_player::session::ShellSession;
 
 // One row for each key of a collection, in their order. Places behind the last key stay; a refusal leaves every byte.
@@ -14,7 +14,7 @@ pub fn collection_page(
     collection: u64,
     keys: &[u64],
     answers: &mut [u8],
-) -> PageAnswer
+) -> Result<usize, PageRefusal>
     ensures told { result ≡ page_answer (length keys.now) (page_refusal (length keys.now) (length answers.old / page_width)) }
     ensures written { (m : Session) → Holds session m
         → answers.new ≡ table_left (page_refusal (length keys.now) (length answers.old / page_width)) (page_bytes m.projection collection keys.now) answers.old }

@@ -1,4 +1,5 @@
 -- What a batch hands back is what the batch of the model hands back.
+use Rattle.std.specs.Prelude as code
 use Rattle.std.specs.Prelude.{ℕ, ◌≡◌, eqb}
 use Rattle.std.proofs.Common.{sym, ◌∙◌, arith}
 use Rattle.std.proofs.Math.Path.{ap, ap₂, subst}
@@ -22,8 +23,8 @@ use Rattle.active_projection_target_catalog.specs.Catalog.{catalogue_of}
 use Rattle.active_projection_target_catalog.proofs.CatalogLaws.{catalogue_back}
 use Rattle.local_projection_state.specs.declared.ProjectionCounts.{ProjectionCounts}
 use Rattle.panel_changes.specs.SetChanges.{StoredAfter, ChangeBecame}
-use Rattle.panel_changes.specs.declared.SetChange.{SetChange}
-use Rattle.panel_changes.specs.declared.SetChange.TheVariants as change
+use Rattle.panel_changes.specs.declared.SetRefusal.{SetRefusal}
+use Rattle.panel_changes.specs.declared.SetRefusal.TheVariants as change
 use Rattle.session_gates.specs.Gates.{erased}
 use Rattle.session_gates.proofs.ErasedLaws.{erased_refused, erased_passed}
 use Rattle.shell_player.specs.declared.session.ShellSession.{ShellSession}
@@ -76,25 +77,25 @@ module _ (s : ShellSession) (m : Session) (holds : Holds s m) where
         go (q ∷ qs) c = absurd (omega arith)
 
     -- a set that was not applied hands the session back
-    pub commits_stopped : (became : SetChange) (Next : ProjectionCounts → Projection → Type 0) (r : ProjectionPatchApplicationResult) → Stopped became → ChangeBecame Next became (candidate m ps) → batch_answer_of r ≡ change_answer cap cursor e.sequence became
+    pub commits_stopped : (became : code.Result ProjectionCounts SetRefusal) (Next : ProjectionCounts → Projection → Type 0) (r : ProjectionPatchApplicationResult) → Stopped became → ChangeBecame Next became (candidate m ps) → batch_answer_of r ≡ change_answer cap cursor e.sequence became
         → BatchBecame (record { session = s; result = r }) (commit m e (candidate m ps))
     unfolding commit change_answer
     commits_stopped became Next r stop is h = go became (candidate m ps) stop is h
       where
-        go : (u : SetChange) (x : Outcome) → Stopped u → ChangeBecame Next u x → batch_answer_of r ≡ change_answer cap cursor e.sequence u → BatchBecame (record { session = s; result = r }) (commit m e x)
-        go (change.Applied n) x stop b h = absurd stop
-        go (change.Refused f) (done q) stop b h = absurd b
-        go (change.Refused f) (stopped g) stop b h = rejects r (of_operation g) 1 (h ∙ ap (λ k. rejected_at cap (of_operation k) 1 cursor) b)
-        go (change.Unreadable f) x stop b h = absurd b
-        go change.BadTables x stop b h = absurd b
+        go : (u : code.Result ProjectionCounts SetRefusal) (x : Outcome) → Stopped u → ChangeBecame Next u x → batch_answer_of r ≡ change_answer cap cursor e.sequence u → BatchBecame (record { session = s; result = r }) (commit m e x)
+        go (code.Ok n) x stop b h = absurd stop
+        go (code.Err (change.Operation f)) (done q) stop b h = absurd b
+        go (code.Err (change.Operation f)) (stopped g) stop b h = rejects r (of_operation g) 1 (h ∙ ap (λ k. rejected_at cap (of_operation k) 1 cursor) b)
+        go (code.Err (change.Unreadable f)) x stop b h = absurd b
+        go (code.Err change.BadTables) x stop b h = absurd b
 
     -- a set that was applied stores what the tables hold
-    pub commits_applied : (n : ProjectionCounts) (b a y l : List ℕ) (t : ShellLocalState) (r : ProjectionPatchApplicationResult) → (e.patches ≡ 0 → ⊥) → ChangeBecame (λ k q. StoredAfter k b a y l q) (change.Applied n) (candidate m ps)
+    pub commits_applied : (n : ProjectionCounts) (b a y l : List ℕ) (t : ShellLocalState) (r : ProjectionPatchApplicationResult) → (e.patches ≡ 0 → ⊥) → ChangeBecame (λ k q. StoredAfter k b a y l q) (code.Ok n) (candidate m ps)
         → shell_state_of t ≡ moved_to (shell_state_of s.state) e.sequence → batch_answer_of r ≡ answer_at applied (at e.sequence) → BatchBecame (record { session = session_of s.context t n b a y l; result = r }) (commit m e (candidate m ps))
     unfolding commit apply_batch advanced state_of
     commits_applied n b a y l t r some became moved h = go (candidate m ps) became
       where
-        go : (x : Outcome) → ChangeBecame (λ k q. StoredAfter k b a y l q) (change.Applied n) x → BatchBecame (record { session = session_of s.context t n b a y l; result = r }) (commit m e x)
+        go : (x : Outcome) → ChangeBecame (λ k q. StoredAfter k b a y l q) (code.Ok n) x → BatchBecame (record { session = session_of s.context t n b a y l; result = r }) (commit m e x)
         go (done q) stored = rw (ne_eqb e.patches 0 some) (
             record {
               answer = h;

@@ -6,9 +6,8 @@ ghost use Rattle.shell_player.specs.Batches.{batch_of, BatchCall, AnyBatchCall};
 use crate::session::ShellSession;
 use crate::tables;
 use local_projection_state::LocalProjectionState;
-use panel_changes::SetChange;
 use projection_patch::patch::ProjectionPatchEdition;
-use session_gates::gates::{GateRefusal, OrderedProjectionPatchBatchEnvelope};
+use session_gates::gates::OrderedProjectionPatchBatchEnvelope;
 use session_steps::answers::ProjectionPatchApplicationResult;
 use session_steps::{answers, checks, states};
 
@@ -47,8 +46,11 @@ impl ShellSession {
         let cursor = state.replay_cursor;
         let declared = declared_target_reference_count;
         let gate = checks::check_session(context, state, envelope, declared, set, edition);
-        if let Err(GateRefusal { refusal, logical }) = gate {
-            return batch_of(self, answers::rejected(cap, refusal, logical, cursor));
+        if let Err(refused) = gate {
+            return batch_of(
+                self,
+                answers::rejected(cap, refused.refusal, refused.logical, cursor),
+            );
         }
         if checks::is_empty(envelope) {
             return batch_of(self, answers::unchanged(cursor));
@@ -72,11 +74,21 @@ impl ShellSession {
             used,
         );
         let result = answers::concluded(cap, change, cursor, envelope.sequence_no);
-        let SetChange::Applied(n) = change else {
-            return batch_of(self, result);
-        };
-        let moved = states::advanced(state, envelope.sequence_no);
-        let session = tables::with_tables(self, moved, n, bindings, availability, entries, lengths);
-        batch_of(session, result)
+        match change {
+            Ok(n) => {
+                let moved = states::advanced(state, envelope.sequence_no);
+                let session = tables::with_tables(
+                    self,
+                    moved,
+                    n,
+                    bindings,
+                    availability,
+                    entries,
+                    lengths,
+                );
+                batch_of(session, result)
+            }
+            Err(_) => batch_of(self, result),
+        }
     }
 }

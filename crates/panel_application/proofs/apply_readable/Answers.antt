@@ -1,5 +1,5 @@
 -- `apply_readable` meets its contract: what `apply_set` wrote is the next state's, or the state goes back as it came.
-use mathlib.Core.Path.{refl, sym, subst}
+use mathlib.Core.Path.{refl, sym, ap, subst, ◌∙◌}
 use borrow.Author.Rules.{rules}
 use Rattle.spec_projection.specs.Apply.{replay_steps, apply_steps}
 use Rattle.bytes_records.specs.Moves.{zeros}
@@ -9,7 +9,7 @@ use Rattle.local_projection_state.specs.declared.ProjectionCounts.{ProjectionCou
 use Rattle.panel_changes.specs.SetChanges.{ReadyTables}
 use Rattle.panel_changes.specs.SetChangesLaws.{zeros_ready}
 use Rattle.panel_application.specs.Application.{StepsBecame}
-use Rattle.panel_application.specs.declared.ProjectionOutcome.TheVariants.{Applied}
+use Rattle.std.specs.Prelude.{Ok, Err}
 use Rattle.panel_application.proofs.Steps.{steps_applied, steps_refused, set_reads, set_fits}
 use Rattle.panel_application.proofs.apply_readable.Goals as goal
 use Rattle.panel_application.proofs.apply_readable.Goals.{After-apply_set}
@@ -18,23 +18,23 @@ use Rattle.panel_application.proofs.apply_readable.Goals.{After-apply_set}
 ready : (c : After-apply_set) → ReadyTables c.none_used-used.result (zeros binding_bytes) (zeros availability_bytes) (zeros entry_bytes) (zeros length_bytes)
 ready c = subst (λ (u : ProjectionCounts). ReadyTables u (zeros binding_bytes) (zeros availability_bytes) (zeros entry_bytes) (zeros length_bytes)) (sym c.none_used-used.ensures) zeros_ready
 
-pub returns-in-Applied : goal.returns-in-Applied
-returns-in-Applied c =
+pub returns-in-Ok : goal.returns-in-Ok
+returns-in-Ok c =
     record {
       steps = (λ ps p readable s.
-          subst (λ (next : LocalProjectionState). StepsBecame next Applied (apply_steps p (replay_steps ps))) (sym c.state_of.ensures)
-          (steps_applied c.apply_set.new.to_bindings c.apply_set.new.to_availability c.apply_set.new.to_entries c.apply_set.new.to_lengths (apply_steps p (replay_steps ps)) (c.apply_set.ensures.changed p ps s.tables readable (ready (goal.at.returns-in-Applied c).After-apply_set)) _ c.in-Applied.is));
+          subst (λ (next : LocalProjectionState). StepsBecame next (Ok tt) (apply_steps p (replay_steps ps))) (sym c.state_of.ensures)
+          (steps_applied c.apply_set.new.to_bindings c.apply_set.new.to_availability c.apply_set.new.to_entries c.apply_set.new.to_lengths (apply_steps p (replay_steps ps)) (c.apply_set.ensures.changed p ps s.tables readable (ready (goal.at.returns-in-Ok c).After-apply_set)) _ c.in-Ok.is));
       kept = search rules;
     }
 
-pub returns-in-Refused : goal.returns-in-Refused
-returns-in-Refused c =
-    record { steps = (λ ps p readable s. steps_refused c.apply_set.new.to_bindings c.apply_set.new.to_availability c.apply_set.new.to_entries c.apply_set.new.to_lengths (apply_steps p (replay_steps ps)) (c.apply_set.ensures.changed p ps s.tables readable (ready (goal.at.returns-in-Refused c).After-apply_set)) c.args.state _ c.in-Refused.is); kept = refl }
+pub returns-in-Operation : goal.returns-in-Operation
+returns-in-Operation c =
+    record { steps = (λ ps p readable s. steps_refused c.apply_set.new.to_bindings c.apply_set.new.to_availability c.apply_set.new.to_entries c.apply_set.new.to_lengths (apply_steps p (replay_steps ps)) (c.apply_set.ensures.changed p ps s.tables readable (ready (goal.at.returns-in-Operation c).After-apply_set)) c.args.state _ (c.in-Err.is ∙ ap Err c.in-Operation.is)); kept = refl }
 
 pub returns-in-Unreadable : goal.returns-in-Unreadable
 returns-in-Unreadable c =
-    record { steps = (λ ps p readable s. absurd (set_reads c.apply_set.new.to_bindings c.apply_set.new.to_availability c.apply_set.new.to_entries c.apply_set.new.to_lengths (apply_steps p (replay_steps ps)) (c.apply_set.ensures.changed p ps s.tables readable (ready (goal.at.returns-in-Unreadable c).After-apply_set)) _ c.in-Unreadable.is)); kept = refl }
+    record { steps = (λ ps p readable s. absurd (set_reads c.apply_set.new.to_bindings c.apply_set.new.to_availability c.apply_set.new.to_entries c.apply_set.new.to_lengths (apply_steps p (replay_steps ps)) (c.apply_set.ensures.changed p ps s.tables readable (ready (goal.at.returns-in-Unreadable c).After-apply_set)) _ (c.in-Err.is ∙ ap Err c.in-Unreadable.is))); kept = refl }
 
 pub returns-in-BadTables : goal.returns-in-BadTables
 returns-in-BadTables c =
-    record { steps = (λ ps p readable s. absurd (set_fits c.apply_set.new.to_bindings c.apply_set.new.to_availability c.apply_set.new.to_entries c.apply_set.new.to_lengths (apply_steps p (replay_steps ps)) (c.apply_set.ensures.changed p ps s.tables readable (ready (goal.at.returns-in-BadTables c).After-apply_set)) c.in-BadTables.is)); kept = refl }
+    record { steps = (λ ps p readable s. absurd (set_fits c.apply_set.new.to_bindings c.apply_set.new.to_availability c.apply_set.new.to_entries c.apply_set.new.to_lengths (apply_steps p (replay_steps ps)) (c.apply_set.ensures.changed p ps s.tables readable (ready (goal.at.returns-in-BadTables c).After-apply_set)) (c.in-Err.is ∙ ap Err c.in-BadTables.is))); kept = refl }

@@ -1,18 +1,12 @@
--- `panel_changes::counts_fit` meets its contract: one count after the other.
-use borrow.Author.Tests.{le-leb, lt-leb}
-use Rattle.spec_patch.specs.Sizes.{projection_bindings, projection_availabilities}
-use Rattle.panel_changes.specs.SetChanges.{change_counts_fit}
+-- `panel_changes::counts_fit` meets its contract.
 use borrow.Author.Rules.{rules}
+use Rattle.panel_changes.specs.SetChanges.{change_counts_fit}
 use Rattle.panel_changes.proofs.counts_fit.Goals as goal
 
-pub returns-then-counts-gt-BINDINGS : goal.returns-then-counts-gt-BINDINGS
+pub returns-then-counts-le-AVAILABILITIES : goal.returns-then-counts-le-AVAILABILITIES
 unfolding change_counts_fit
-returns-then-counts-gt-BINDINGS c = rw (lt-leb c.args.counts.bindings projection_bindings c.if-counts-gt-BINDINGS.true)
+returns-then-counts-le-AVAILABILITIES c = search rules
 
-pub returns-then-counts-gt-AVAILABILITIES : goal.returns-then-counts-gt-AVAILABILITIES
+pub returns-else-counts-le-AVAILABILITIES : goal.returns-else-counts-le-AVAILABILITIES
 unfolding change_counts_fit
-returns-then-counts-gt-AVAILABILITIES c = rw (le-leb c.args.counts.bindings projection_bindings c.if-counts-gt-BINDINGS.false, lt-leb c.args.counts.availabilities projection_availabilities c.if-counts-gt-AVAILABILITIES.true)
-
-pub returns : goal.returns
-unfolding change_counts_fit
-returns c = rw (le-leb c.args.counts.bindings projection_bindings c.if-counts-gt-BINDINGS.false, le-leb c.args.counts.availabilities projection_availabilities c.if-counts-gt-AVAILABILITIES.false)
+returns-else-counts-le-AVAILABILITIES c = search rules

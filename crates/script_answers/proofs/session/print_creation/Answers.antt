@@ -9,11 +9,11 @@ use Rattle.bytes_printer.proofs.PrintsLaws.{prints_same}
 use Rattle.script_answers.proofs.Creations.{made_line, creation_refused}
 use Rattle.script_answers.proofs.session.print_creation.Goals as goal
 
-pub returns-in-Created : goal.returns-in-Created
-returns-in-Created c =
-    λ made is. prints_same (made_line made (sym c.in-Created.is ∙ is)) c.print_number_line.ensures
+pub returns-in-Ok : goal.returns-in-Ok
+returns-in-Ok c =
+    λ made is. prints_same (made_line made (sym c.in-Ok.is ∙ is)) c.print_number_line.ensures
 
-pub returns-in-Refused : goal.returns-in-Refused
-returns-in-Refused c =
+pub returns-in-Err : goal.returns-in-Err
+returns-in-Err c =
     let number = ap (λ (n : ℕ). 83 ∷ fields (decimal n ∷ [])) c.number.ensures in
-    λ made is. prints_same (number ∙ creation_refused made _ (sym c.in-Refused.is ∙ is)) c.print_number_line-in-Refused.ensures
+    λ made is. prints_same (number ∙ creation_refused made _ (sym c.in-Err.is ∙ is)) c.print_number_line-in-Err.ensures

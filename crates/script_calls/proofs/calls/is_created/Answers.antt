@@ -3,10 +3,10 @@ use Rattle.script_calls.specs.ReplayHolds.{is_created}
 use borrow.Author.Rules.{rules}
 use Rattle.script_calls.proofs.calls.is_created.Goals as goal
 
-pub returns-in-Created : goal.returns-in-Created
+pub returns-in-Ok : goal.returns-in-Ok
 unfolding is_created
-returns-in-Created c = rw c.in-Created.is
+returns-in-Ok c = rw c.in-Ok.is
 
-pub returns-in-Refused : goal.returns-in-Refused
+pub returns-in-Err : goal.returns-in-Err
 unfolding is_created
-returns-in-Refused c = rw c.in-Refused.is
+returns-in-Err c = rw c.in-Err.is

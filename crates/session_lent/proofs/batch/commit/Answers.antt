@@ -8,10 +8,9 @@ use Rattle.session_lent.specs.Head.{moved_head}
 use Rattle.local_projection_state.specs.Stores.{StoredTables}
 use Rattle.local_projection_state.specs.declared.ProjectionCounts.{ProjectionCounts}
 use Rattle.panel_changes.specs.SetChanges.{ReadyTables, StoredAfter}
-use Rattle.session_steps.proofs.Stops.{other_stopped}
+use Rattle.session_steps.proofs.Stops.{refused_stopped}
 use Rattle.session_lent.specs.BatchesLaws.{stopped_became, stopped_kept, applied_became}
 use borrow.Author.Rules.{rules}
-use borrow.Enum.Refused.{opened as one_of}
 use Rattle.session_lent.proofs.batch.commit.Goals as goal
 
 stored : {b a e : List ℕ} {p : Projection} {k : ProjectionCounts} (n : ProjectionCounts) → n ≡ k → StoredTables k b a e p → StoredTables n b a e p
@@ -20,9 +19,9 @@ stored {b = b} {a = a} {e = e} {p = p} n is = subst (λ (x : ProjectionCounts). 
 ready : {b a e l : List ℕ} {k : ProjectionCounts} (n : ProjectionCounts) → n ≡ k → ReadyTables k b a e l → ReadyTables n b a e l
 ready {b = b} {a = a} {e = e} {l = l} n is = subst (λ (x : ProjectionCounts). ReadyTables x b a e l) (sym is)
 
-pub returns-in_default : goal.returns-in_default
-returns-in_default c =
-    let stop = other_stopped c.apply_set_with_plan-change.result (one_of c.in_default.in_default-own.keys2) in record {
+pub returns-in-Err : goal.returns-in-Err
+returns-in-Err c =
+    let stop = refused_stopped c.apply_set_with_plan-change.result c.in-Err.is in record {
       changed = λ p ps st reads room clear.
           stopped_became (λ n q. StoredAfter n c.apply_set_with_plan-change.new.to_bindings c.apply_set_with_plan-change.new.to_availability c.apply_set_with_plan-change.new.to_entries c.apply_set_with_plan-change.new.to_lengths q) (λ n q. (c.args.to_head.now ≡ moved_head c.args.head.now c.args.sequence_no n) × StoredAfter n c.apply_set_with_plan-change.new.to_bindings c.apply_set_with_plan-change.new.to_availability c.apply_set_with_plan-change.new.to_entries c.apply_set_with_plan-change.new.to_lengths q) c.apply_set_with_plan-change.result (apply_steps p (replay_steps ps)) stop
           (c.apply_set_with_plan-change.ensures.changed p ps (stored _ c.counts_in-counts.ensures st) reads (ready _ c.counts_in-used.ensures room.tables) clear);
@@ -33,11 +32,11 @@ returns-in_default c =
 pub store_moved-requires : goal.store_moved-requires
 store_moved-requires c = c.requires
 
-pub returns : goal.returns
-returns c =
+pub returns-in-Ok : goal.returns-in-Ok
+returns-in-Ok c =
     record {
       changed = λ p ps st reads room clear.
-          applied_became (λ n q. StoredAfter n c.apply_set_with_plan-change.new.to_bindings c.apply_set_with_plan-change.new.to_availability c.apply_set_with_plan-change.new.to_entries c.apply_set_with_plan-change.new.to_lengths q) (λ n. c.store_moved.new.to ≡ moved_head c.args.head.now c.args.sequence_no n) c.apply_set_with_plan-change.result c.in-Applied.next (apply_steps p (replay_steps ps)) c.in-Applied.is c.store_moved.ensures
+          applied_became (λ n q. StoredAfter n c.apply_set_with_plan-change.new.to_bindings c.apply_set_with_plan-change.new.to_availability c.apply_set_with_plan-change.new.to_entries c.apply_set_with_plan-change.new.to_lengths q) (λ n. c.store_moved.new.to ≡ moved_head c.args.head.now c.args.sequence_no n) c.apply_set_with_plan-change.result c.in-Ok.next (apply_steps p (replay_steps ps)) c.in-Ok.is c.store_moved.ensures
           (c.apply_set_with_plan-change.ensures.changed p ps (stored _ c.counts_in-counts.ensures st) reads (ready _ c.counts_in-used.ensures room.tables) clear);
       kept = search rules;
       cleared = λ p ps st. c.apply_set_with_plan-change.ensures.cleared p ps (stored _ c.counts_in-counts.ensures st);

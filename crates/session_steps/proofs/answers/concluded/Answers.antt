@@ -2,27 +2,28 @@
 use mathlib.Core.Path.{sym, ap, ◌∙◌}
 use Rattle.session_lifecycle.specs.Meaning.{cursor_of}
 use Rattle.session_steps.specs.Answers.{rejected_at, change_answer}
+use Rattle.std.specs.Prelude.{Err}
 use borrow.Author.Rules.{rules}
 use Rattle.session_steps.proofs.answers.concluded.Goals as goal
 
-pub returns-in-Applied : goal.returns-in-Applied
+pub returns-in-Ok : goal.returns-in-Ok
 unfolding change_answer
-returns-in-Applied c =
-    c.applied_at.ensures ∙ sym (ap (change_answer c.args.cap (cursor_of c.args.cursor) c.args.number) c.in-Applied.is)
+returns-in-Ok c =
+    c.applied_at.ensures ∙ sym (ap (change_answer c.args.cap (cursor_of c.args.cursor) c.args.number) c.in-Ok.is)
 
-pub returns-in-Refused : goal.returns-in-Refused
+pub returns-in-Operation : goal.returns-in-Operation
 unfolding change_answer
-returns-in-Refused c =
+returns-in-Operation c =
     c.rejected.ensures
     ∙ ap (λ f. rejected_at c.args.cap f 1 (cursor_of c.args.cursor)) c.refusal_of.ensures
-    ∙ sym (ap (change_answer c.args.cap (cursor_of c.args.cursor) c.args.number) c.in-Refused.is)
+    ∙ sym (ap (change_answer c.args.cap (cursor_of c.args.cursor) c.args.number) (c.in-Err.is ∙ ap Err c.in-Operation.is))
 
 pub returns-in-Unreadable : goal.returns-in-Unreadable
 unfolding change_answer
 returns-in-Unreadable c =
-    c.rejected-in-Unreadable.ensures ∙ sym (ap (change_answer c.args.cap (cursor_of c.args.cursor) c.args.number) c.in-Unreadable.is)
+    c.rejected-in-Unreadable.ensures ∙ sym (ap (change_answer c.args.cap (cursor_of c.args.cursor) c.args.number) (c.in-Err.is ∙ ap Err c.in-Unreadable.is))
 
 pub returns-in-BadTables : goal.returns-in-BadTables
 unfolding change_answer
 returns-in-BadTables c =
-    c.rejected-in-BadTables.ensures ∙ sym (ap (change_answer c.args.cap (cursor_of c.args.cursor) c.args.number) c.in-BadTables.is)
+    c.rejected-in-BadTables.ensures ∙ sym (ap (change_answer c.args.cap (cursor_of c.args.cursor) c.args.number) (c.in-Err.is ∙ ap Err c.in-BadTables.is))

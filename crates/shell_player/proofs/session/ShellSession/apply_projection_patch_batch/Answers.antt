@@ -17,13 +17,13 @@ use Rattle.panel_rows.specs.Rows.{binding_bytes, availability_bytes, entry_bytes
 use Rattle.local_projection_state.specs.declared.ProjectionCounts.{ProjectionCounts}
 use Rattle.panel_changes.specs.SetChanges.{ReadyTables, StoredAfter, ChangeBecame}
 use Rattle.panel_changes.specs.SetChangesLaws.{zeros_ready}
-use Rattle.panel_changes.specs.declared.SetChange.{SetChange}
-use Rattle.panel_changes.specs.declared.SetChange.TheVariants.{Applied}
+use Rattle.std.specs.Prelude.{Result, Ok}
+use Rattle.panel_changes.specs.declared.SetRefusal.{SetRefusal}
 use Rattle.session_gates.specs.Gates.{gate_of, check_counted, batch_envelope_of}
 use Rattle.session_gates.specs.declared.gates.OrderedProjectionPatchBatchEnvelope.{OrderedProjectionPatchBatchEnvelope}
 use Rattle.session_steps.specs.declared.answers.ProjectionPatchApplicationResult.{ProjectionPatchApplicationResult}
 use Rattle.session_steps.specs.Answers.{batch_answer_of, answer_at, change_answer, rejected_row, unchanged_row, applied_row}
-use Rattle.session_steps.proofs.Stops.{other_stopped}
+use Rattle.session_steps.proofs.Stops.{refused_stopped}
 use Rattle.session_steps.specs.AnswersLaws.{same_rejection, change_row}
 use Rattle.spec_patch.specs.Edition.{Edition}
 use Rattle.projection_patch.specs.Meaning.{edition_of}
@@ -32,12 +32,11 @@ use Rattle.shell_player.specs.declared.batch.ProjectionPatchBatch.{ProjectionPat
 use Rattle.shell_player.specs.Holds.{Holds}
 use Rattle.shell_player.specs.Batches.{batch_of, BatchBecame, BatchCall, AnyBatchCall}
 use Rattle.shell_player.specs.CommitLaws.{kept_applied, struct_seen, commits_none, commits_stopped, commits_applied, batch_rejects, batch_commits}
-use borrow.Enum.Refused.{opened as one_of}
 use Rattle.shell_player.proofs.session.ShellSession.apply_projection_patch_batch.Goals as goal
 use Rattle.shell_player.proofs.session.ShellSession.apply_projection_patch_batch.Goals.{After-apply_set-change, After-with_tables-session}
 
 -- the tables that the call wrote
-abbrev Tables : After-apply_set-change → SetChange → (m : Session) (ps : List Patch) → Type 0
+abbrev Tables : After-apply_set-change → Result ProjectionCounts SetRefusal → (m : Session) (ps : List Patch) → Type 0
 Tables c r m ps = ChangeBecame (λ n q. StoredAfter n c.apply_set-change.new.to_bindings c.apply_set-change.new.to_availability c.apply_set-change.new.to_entries c.apply_set-change.new.to_lengths q) r (candidate m ps)
 
 -- what came of the operations
@@ -52,15 +51,15 @@ told {s = s} {e = e} {declared = declared} {set = set} {ed = ed} session result 
 
 answered : (c : After-with_tables-session) → batch_answer_of c.concluded-result.result ≡ answer_at applied (at c.args.envelope.sequence_no)
 unfolding change_answer
-answered c = c.concluded-result.ensures ∙ ap (change_answer _ _ _) c.in-Applied.is
+answered c = c.concluded-result.ensures ∙ ap (change_answer _ _ _) c.in-Ok.is
 
 -- the session that was made of the tables
 handed : (c : After-with_tables-session) → (m : Session) (ps : List Patch) → Holds c.args.self m → read_set (edition_of c.args.edition) c.args.set.now ≡ patches ps → (c.args.envelope.patch_count ≡ 0 → ⊥)
     → BatchBecame (batch_of c.with_tables-session.result c.concluded-result.result) (commit m (batch_envelope_of c.args.envelope) (candidate m ps))
 handed c m ps h reads some =
-    let stored : Tables (goal.at.After-with_tables-session c).After-apply_set-change (Applied c.in-Applied.n) m ps = subst (λ r. Tables (goal.at.After-with_tables-session c).After-apply_set-change r m ps) c.in-Applied.is (became (goal.at.After-with_tables-session c).After-apply_set-change m ps h reads) in
+    let stored : Tables (goal.at.After-with_tables-session c).After-apply_set-change (Ok c.in-Ok.n) m ps = subst (λ r. Tables (goal.at.After-with_tables-session c).After-apply_set-change r m ps) c.in-Ok.is (became (goal.at.After-with_tables-session c).After-apply_set-change m ps h reads) in
     subst (λ (s : ShellSession). BatchBecame (batch_of s c.concluded-result.result) (commit m (batch_envelope_of c.args.envelope) (candidate m ps))) (sym c.with_tables-session.ensures)
-    (commits_applied c.args.self m h (batch_envelope_of c.args.envelope) ps c.in-Applied.n _ _ _ _ c.advanced-moved.result c.concluded-result.result some stored c.advanced-moved.ensures (answered c))
+    (commits_applied c.args.self m h (batch_envelope_of c.args.envelope) ps c.in-Ok.n _ _ _ _ c.advanced-moved.result c.concluded-result.result some stored c.advanced-moved.ensures (answered c))
 
 pub returns-in-Err : goal.returns-in-Err
 unfolding gate_of check_counted
@@ -88,12 +87,12 @@ returns-then-is_empty c =
       },
     ) in record { holding = all.0; whatever = all.1 }
 
-pub returns-in_default-change : goal.returns-in_default-change
+pub returns-in-Err-change : goal.returns-in-Err-change
 unfolding gate_of
-returns-in_default-change c =
+returns-in-Err-change c =
     let all = let gate = ap gate_of (sym c.in_default.is) in
-    told _ _ c.batch_of-in_default-change.ensures (
-      record { became = λ m h. batch_commits _ m h _ _ _ _ _ (gate ∙ c.check_session-gate.ensures.checked m (struct_seen _ m h)) (λ ps reads count. commits_stopped _ m h _ ps c.apply_set-change.result _ _ (other_stopped c.apply_set-change.result (one_of c.in_default-change.in_default-change-own.keys2)) (became (goal.at.returns-in_default-change c).After-apply_set-change m ps h reads) c.concluded-result.ensures) },
+    told _ _ c.batch_of-in-Err-change.ensures (
+      record { became = λ m h. batch_commits _ m h _ _ _ _ _ (gate ∙ c.check_session-gate.ensures.checked m (struct_seen _ m h)) (λ ps reads count. commits_stopped _ m h _ ps c.apply_set-change.result _ _ (refused_stopped c.apply_set-change.result c.in-Err-change.is) (became (goal.at.returns-in-Err-change c).After-apply_set-change m ps h reads) c.concluded-result.ensures) },
       record {
         kept = λ n. refl;
         row = change_row _ _ _ _ c.apply_set-change.result c.concluded-result.ensures;
@@ -101,17 +100,17 @@ returns-in_default-change c =
       },
     ) in record { holding = all.0; whatever = all.1 }
 
-pub returns : goal.returns
+pub returns-in-Ok : goal.returns-in-Ok
 unfolding gate_of
-returns c =
+returns-in-Ok c =
     let all = let gate = ap gate_of (sym c.in_default.is) in
-    told _ _ c.batch_of-2.ensures (
+    told _ _ c.batch_of-in-Ok.ensures (
       record {
-        became = λ m h. batch_commits _ m h _ _ _ _ _ (gate ∙ c.check_session-gate.ensures.checked m (struct_seen _ m h)) (λ ps reads count. handed (goal.at.returns c).After-with_tables-session m ps h reads (λ none. false≢true (sym (sym c.is_empty.ensures ∙ c.if-is_empty.false) ∙ eq-eqb _ 0 none)));
+        became = λ m h. batch_commits _ m h _ _ _ _ _ (gate ∙ c.check_session-gate.ensures.checked m (struct_seen _ m h)) (λ ps reads count. handed (goal.at.returns-in-Ok c).After-with_tables-session m ps h reads (λ none. false≢true (sym (sym c.is_empty.ensures ∙ c.if-is_empty.false) ∙ eq-eqb _ 0 none)));
       },
       record {
-        kept = kept_applied _ _ _ (answered (goal.at.returns c).After-with_tables-session);
-        row = applied_row (answered (goal.at.returns c).After-with_tables-session);
+        kept = kept_applied _ _ _ (answered (goal.at.returns-in-Ok c).After-with_tables-session);
+        row = applied_row (answered (goal.at.returns-in-Ok c).After-with_tables-session);
         preflight = λ f n h. never_passes (sym (gate ∙ c.check_session-gate.ensures.preflight f n h));
       },
     ) in record { holding = all.0; whatever = all.1 }
