@@ -52,6 +52,7 @@ fn survey_with(
     let mut count: usize = 0;
     let mut bytes: usize = 0;
     let mut repeated = false;
+    // By position and not by split: an operation holds the place of its text in the list.
     while at < list.len() {
         let line = patch_terms::read_line(list, at)?;
         if count == ProjectionPatch::OPERATIONS {

@@ -20,6 +20,7 @@ fn write_lines(list: &[u8], collection: u64, out: &mut [u8], from: usize)
 {
     let mut at = 0;
     let mut next = from;
+    // By position and not by split: an operation holds the place of its text in the list.
     while at < list.len() {
         let line = patch_terms::reread_line(list, at);
         let operation = insertion(collection, line.key, line.start, line.len);
