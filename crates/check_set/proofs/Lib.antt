@@ -1,5 +1,5 @@
 -- Laws that belong to no one function.
 mod OperationRuns
 mod PatchRuns
-mod Copies
+mod Stands
 mod Written

@@ -9,6 +9,7 @@ use lib.ListN.{length, take, drop, length-take}
 use lib.Seq.{take_all}
 use borrow.Author.Tests.{leb-true, leb-false}
 use Rattle.std.specs.Prelude.{if◌then◌else◌}
+use Rattle.std.specs.Prelude as code
 use Rattle.spec_lists.proofs.ListLaws.{test_cases}
 use Rattle.spec_patch.specs.Patch.{Patch}
 use Rattle.spec_patch.specs.Read.{SetReading, patches, fault}
@@ -28,7 +29,7 @@ use Rattle.check_set.specs.CheckAnswers.{place_to, checked_to, check_answer, che
 use Rattle.check_set.specs.declared.list_set.FindingsListed.{FindingsListed}
 use Rattle.check_set.specs.declared.check_set.CheckPlace.TheVariants as place
 use Rattle.check_set.specs.declared.check_set.PatchSetCheck.{PatchSetCheck}
-use Rattle.check_set.specs.declared.check_set.PatchSetCheck.TheVariants as set-check
+use Rattle.check_set.specs.declared.check_set.CheckPlace.{CheckPlace}
 
 -- ---- the numbers
 
@@ -76,25 +77,22 @@ module _ (found : List Finding) (records out : List ℕ) (w : ℕ) (front : take
 
 -- ---- the answer
 
-place_told : (p q : Place) (m n : ℕ) → listed_to p m ≡ listed_to q n → (p ≡ q) × (m ≡ n)
-place_told (in_patch i) (in_patch j) m n e = let same : i ≡ j = cc in (ap in_patch same, cc)
-place_told (in_patch i) in_set m n e = absurd (let z : ◌≡◌ {A = ℕ} 0 1 = cc in omega arith)
-place_told in_set (in_patch j) m n e = absurd (let z : ◌≡◌ {A = ℕ} 0 1 = cc in omega arith)
-place_told in_set in_set m n e = (refl, cc)
+abbrev checked_at : CheckPlace → ℕ → ℕ → PatchSetCheck
+checked_at p logical w = record { place = p; logical = logical; written = w }
 
 module _ (ps : List Patch) (r : FindingsListed) (records : List ℕ) (h : FindingsListedAs (findings ps) r records) where
-  module _ (p : Place) (logical w : ℕ) (told : r ≡ listed_to p logical) (out : List ℕ) (counted : w ≡ min (length records / record_length) (min (length out / record_length) logical)) where
-    same : ((findings ps).place ≡ p) × (length (findings ps).found ≡ logical)
-    same = place_told (findings ps).place p _ _ (sym h.0 ∙ told)
+  module _ (w : ℕ) (out : List ℕ) (counted : w ≡ min (length records / record_length) (min (length out / record_length) r.count)) where
+    counts : r.count ≡ length (findings ps).found
+    counts = ap (λ (x : FindingsListed). x.count) h.0
 
     counted_now : w ≡ min (length records / record_length) (min (length out / record_length) (length (findings ps).found))
-    counted_now = counted ∙ ap (λ (n : ℕ). min (length records / record_length) (min (length out / record_length) n)) (sym same.1)
+    counted_now = counted ∙ ap (λ (n : ℕ). min (length records / record_length) (min (length out / record_length) n)) counts
 
-    pub answer_is : set-check.Checked (place_to p) logical w ≡ checked_to (checked_list ps (length out))
+    pub answer_is : checked_at r.place r.count w ≡ checked_to (checked_list ps (length out))
     unfolding checked_list
     answer_is =
-        ap₂ (λ (q : Place) (n : ℕ). set-check.Checked (place_to q) n w) (sym same.0) (sym same.1)
-        ∙ ap (set-check.Checked (place_to (findings ps).place) (length (findings ps).found)) (written_count (findings ps).found records out w h.1 counted_now)
+        ap (λ (x : FindingsListed). checked_at x.place x.count w) h.0
+        ∙ ap (checked_at (place_to (findings ps).place) (length (findings ps).found)) (written_count (findings ps).found records out w h.1 counted_now)
 
     pub numbers_are : take (record_length * w) records ++ drop (record_length * w) out ≡ write_findings (findings ps).found out
     numbers_are = written_numbers (findings ps).found records out w h.1 counted_now
@@ -106,39 +104,35 @@ module _ (lent : List ℕ) where
   unfolding write_findings finding_words flat_map
   unchanged = sym (ap (λ (l : List Finding). finding_words l ++ drop (length (finding_words l)) lent) (fitting_all (length lent) [] (omega arith)))
 
-  clean_answer : (ps : List Patch) → (findings ps).found ≡ [] → (set-check.Checked place.Set 0 0 ≡ checked_to (checked_list ps (length lent))) × (lent ≡ write_findings (findings ps).found lent)
+  clean_answer : (ps : List Patch) → (findings ps).found ≡ [] → (checked_at place.Set 0 0 ≡ checked_to (checked_list ps (length lent))) × (lent ≡ write_findings (findings ps).found lent)
   unfolding checked_list
   clean_answer ps q =
       let whole : findings ps ≡ record { place = in_set; found = [] } = findings_of_clean ps (clean_of_findings ps q) in
       let none_written : 0 ≡ length (fitting (length lent) []) = sym (ap length (fitting_all (length lent) [] (omega arith))) in (
-        ap (set-check.Checked place.Set 0) none_written ∙ ap (λ (f : Findings). set-check.Checked (place_to f.place) (length f.found) (length (fitting (length lent) f.found))) (sym whole),
+        ap (checked_at place.Set 0) none_written ∙ ap (λ (f : Findings). checked_at (place_to f.place) (length f.found) (length (fitting (length lent) f.found))) (sym whole),
         unchanged ∙ ap (λ (l : List Finding). write_findings l lent) (sym q),
       )
 
-  not_clean : (ps : List Patch) (a b : ℕ) (f : Finding) (fs : List Finding) → (findings ps).found ≡ f ∷ fs → quick_answer (patches ps) ≡ quick.Clean a b → ⊥
+  not_clean : (ps : List Patch) (a b : ℕ) (f : Finding) (fs : List Finding) → (findings ps).found ≡ f ∷ fs → quick_answer (patches ps) ≡ code.Ok (quick.Clean a b) → ⊥
   unfolding is_found
   not_clean ps a b f fs q e =
-      let other : quick_answer (patches ps) ≡ quick.Found = ap (λ (l : List Finding). if is_found l then quick.Found else quick.Clean (length ps) (operation_count_lem ps)) q in
+      let other : quick_answer (patches ps) ≡ code.Ok quick.Found = ap (λ (l : List Finding). code.Ok (if is_found l then quick.Found else quick.Clean (length ps) (operation_count_lem ps))) q in
       let z : ◌≡◌ {A = ℕ} 0 1 = cc (sym other ∙ e) in omega arith
 
-  pub clean_is : (s : SetReading) (a b : ℕ) → quick_answer s ≡ quick.Clean a b → (set-check.Checked place.Set 0 0 ≡ check_answer s (length lent)) × (lent ≡ check_numbers s lent)
+  pub clean_is : (s : SetReading) (a b : ℕ) → quick_answer s ≡ code.Ok (quick.Clean a b) → (code.Ok (checked_at place.Set 0 0) ≡ check_answer s (length lent)) × (lent ≡ check_numbers s lent)
   clean_is (fault f) a b e = absurd (let z : ◌≡◌ {A = ℕ} 0 1 = cc in omega arith)
   clean_is (patches ps) a b e = go (findings ps).found refl
     where
-      go : (l : List Finding) → (findings ps).found ≡ l → (set-check.Checked place.Set 0 0 ≡ checked_to (checked_list ps (length lent))) × (lent ≡ write_findings (findings ps).found lent)
-      go [] q = clean_answer ps q
+      go : (l : List Finding) → (findings ps).found ≡ l → (code.Ok (checked_at place.Set 0 0) ≡ check_answer (patches ps) (length lent)) × (lent ≡ write_findings (findings ps).found lent)
+      go [] q = let all = clean_answer ps q in (ap code.Ok all.0, all.1)
       go (f ∷ fs) q = absurd (not_clean ps a b f fs q e)
 
-  pub found_some : (s : SetReading) → quick_answer s ≡ quick.Found → (r : PatchSetCheck) (out : List ℕ)
-      → ((ps : List Patch) → s ≡ patches ps → r ≡ checked_to (checked_list ps (length lent))) → ((ps : List Patch) → s ≡ patches ps → out ≡ write_findings (findings ps).found lent)
+  pub found_some : (s : SetReading) → quick_answer s ≡ code.Ok quick.Found → (r : code.Result PatchSetCheck ProjectionPatchReadFault) (out : List ℕ)
+      → ((ps : List Patch) → s ≡ patches ps → r ≡ code.Ok (checked_to (checked_list ps (length lent)))) → ((ps : List Patch) → s ≡ patches ps → out ≡ write_findings (findings ps).found lent)
       → (r ≡ check_answer s (length lent)) × (out ≡ check_numbers s lent)
   found_some (fault f) e r out h k = absurd (let z : ◌≡◌ {A = ℕ} 0 1 = cc in omega arith)
   found_some (patches ps) e r out h k = (h ps refl, k ps refl)
 
-  pub refused_is : (s : SetReading) (f : ProjectionPatchReadFault) → quick_answer s ≡ quick.Refused f → (set-check.Refused f ≡ check_answer s (length lent)) × (lent ≡ check_numbers s lent)
-  refused_is (fault g) f e = let same : fault_to g ≡ f = cc in (ap set-check.Refused (sym same), refl)
-  refused_is (patches ps) f e = absurd (go (is_found (findings ps).found) e)
-    where
-      go : (t : Bool) → (if t then quick.Found else quick.Clean (length ps) (operation_count_lem ps)) ≡ quick.Refused f → ⊥
-      go true e = let z : ◌≡◌ {A = ℕ} 0 1 = cc in omega arith
-      go false e = let z : ◌≡◌ {A = ℕ} 0 1 = cc in omega arith
+  pub refused_is : (s : SetReading) (f : ProjectionPatchReadFault) → quick_answer s ≡ code.Err f → (code.Err f ≡ check_answer s (length lent)) × (lent ≡ check_numbers s lent)
+  refused_is (fault g) f e = let same : fault_to g ≡ f = cc in (ap code.Err (sym same), refl)
+  refused_is (patches ps) f e = absurd (let z : ◌≡◌ {A = ℕ} 0 1 = cc in omega arith)

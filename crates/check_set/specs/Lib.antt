@@ -1,3 +1,3 @@
+pub mod CheckAnswers
 pub mod Listed
 pub mod ListedLaws
-pub mod CheckAnswers

@@ -7,14 +7,14 @@ use Rattle.spec_patch.specs.Edition.{Edition}
 use Rattle.spec_checks.specs.Finding.{Finding, finding, report, empty_operations, duplicate_patch_id}
 use Rattle.spec_checks.specs.PatchChecks.{envelope_findings}
 use Rattle.spec_checks.specs.SetChecks.{pair_findings}
-use Rattle.spec_checks.specs.Findings.{Place, in_patch, in_set, Findings}
+use Rattle.spec_checks.specs.Findings.{Place, Findings}
 use Rattle.spec_checks.specs.Answer.{record_length, finding_words}
 use Rattle.patch_walk.specs.Steps.{AtSteps}
 use Rattle.check_findings.specs.Ids.{id_seen}
 use Rattle.check_findings.specs.InsertFindingsLaws.{Inserted}
 use Rattle.check_set.specs.declared.list_operations.Listed.{Listed}
 use Rattle.check_set.specs.declared.list_set.FindingsListed.{FindingsListed}
-use Rattle.check_set.specs.declared.list_set.FindingsListed.TheVariants as listed
+use Rattle.check_set.specs.CheckAnswers.{place_to}
 
 -- five records for each patch of a set but the first, which is more than two for each operation of a patch and four
 abbrev pub table_length : ℕ
@@ -38,8 +38,7 @@ unfoldable pub after_listed : List ℕ → Option Envelope → Envelope → List
 after_listed ids previous e = report (id_seen e.id ids) (finding duplicate_patch_id e.id e.sequence) ++ previous_listed previous e
 
 abbrev pub listed_to : Place → ℕ → FindingsListed
-listed_to (in_patch i) n = listed.Patch i n
-listed_to in_set n = listed.Set n
+listed_to p n = record { place = place_to p; count = n }
 
 -- the answer and the front of the table tell the findings
 abbrev pub FindingsListedAs : Findings → FindingsListed → List ℕ → Type 0

@@ -21,15 +21,12 @@ pub enum CheckPlace {
     Set,
 }
 
-// logical: how many findings there are; written: how many records of them fitted.
-#[derive(Drop)]
-pub enum PatchSetCheck {
-    Checked {
-        place: CheckPlace,
-        logical: usize,
-        written: usize,
-    },
-    Refused(ProjectionPatchReadFault),
+// The check of a set that reads. logical: how many findings there are; written: how many records of them fitted.
+#[derive(Clone, Copy)]
+pub struct PatchSetCheck {
+    pub place: CheckPlace,
+    pub logical: usize,
+    pub written: usize,
 }
 
 // The answer at a place, after the records that fit have been written.
@@ -43,7 +40,7 @@ fn write_answer(
     ensures written { out.new ≡ written_numbers logical records.now out.old }
 {
     let written = write_findings::write_findings(records, logical, out);
-    PatchSetCheck::Checked {
+    PatchSetCheck {
         place,
         logical,
         written,
@@ -51,37 +48,36 @@ fn write_answer(
 }
 
 // Lists the findings of a readable set and writes those that fit.
-fn find(set: &[u8], edition: ProjectionPatchEdition, out: &mut [u64]) -> PatchSetCheck
-    ensures answered { (ps : List Patch) → read_set (edition_of edition) set.now ≡ patches ps → result ≡ checked_to (checked_list ps (length out.old)) }
+fn find(
+    set: &[u8],
+    edition: ProjectionPatchEdition,
+    out: &mut [u64],
+) -> Result<PatchSetCheck, ProjectionPatchReadFault>
+    ensures answered { (ps : List Patch) → read_set (edition_of edition) set.now ≡ patches ps → result ≡ Ok (checked_to (checked_list ps (length out.old))) }
     ensures written { (ps : List Patch) → read_set (edition_of edition) set.now ≡ patches ps → out.new ≡ write_findings (findings ps).found out.old }
 {
     let mut records = [0u64; FindingsListed::NUMBERS];
-    match patch_walk::open_set(set, edition) {
-        Ok(start) => match list_set::list_patches(set, edition, start, &mut records) {
-            FindingsListed::Patch(index, logical) => {
-                write_answer(CheckPlace::Patch(index), logical, &records, out)
-            }
-            FindingsListed::Set(logical) => write_answer(CheckPlace::Set, logical, &records, out),
-        },
-        Err(fault) => PatchSetCheck::Refused(fault),
-    }
+    let start = patch_walk::open_set(set, edition)?;
+    let listed = list_set::list_patches(set, edition, start, &mut records);
+    Ok(write_answer(listed.place, listed.count, &records, out))
 }
 
 // Checks a set and writes the records of its findings, three numbers each, from the start of findings.
-pub fn check(set: &[u8], edition: ProjectionPatchEdition, findings: &mut [u64]) -> PatchSetCheck
+pub fn check(
+    set: &[u8],
+    edition: ProjectionPatchEdition,
+    findings: &mut [u64],
+) -> Result<PatchSetCheck, ProjectionPatchReadFault>
     ensures answered { result ≡ check_answer (read_set (edition_of edition) set.now) (length findings.old) }
     ensures written { findings.new ≡ check_numbers (read_set (edition_of edition) set.now) findings.old }
 {
-    match quick_set::quick_check(set, edition) {
-        QuickCheck::Clean {
-            patch_count: _,
-            operation_count: _,
-        } => PatchSetCheck::Checked {
+    let checked = quick_set::quick_check(set, edition)?;
+    match checked {
+        QuickCheck::Clean { .. } => Ok(PatchSetCheck {
             place: CheckPlace::Set,
             logical: 0,
             written: 0,
-        },
+        }),
         QuickCheck::Found => find(set, edition, findings),
-        QuickCheck::Refused(fault) => PatchSetCheck::Refused(fault),
     }
 }

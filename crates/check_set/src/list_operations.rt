@@ -16,7 +16,7 @@ use patch_walk::{SetCursor, SetStep};
 use projection_patch::patch::ProjectionPatchEdition;
 
 // How many records there are, and where the walk stands.
-#[derive(Drop)]
+#[derive(Clone, Copy)]
 pub struct Listed {
     pub count: usize,
     pub next: SetCursor,
@@ -61,20 +61,18 @@ pub fn list_operations(
     let mut index: u64 = 0;
     let mut kept = first;
     while 0 < cursor.operations_left {
-        let Ok(SetStep::Operation(operation, next)) = patch_walk::next_step(
-            set, cursor, false, edition,
-        ) else {
-            return Listed {
-                count: kept,
-                next: cursor,
-            };
+        let Ok(step) = patch_walk::next_step(set, cursor, false, edition) else {
+            break;
+        };
+        let SetStep::Operation(operation, next) = step else {
+            break;
         };
         let target = check_targets::mutation_target(operation);
         let before_self = check_targets::before_self(operation);
         let seen = check_targets::seen_by_mark(targets, marks, used, target);
         kept = insert_operation(records, kept, start.patch_id, index, before_self, seen);
-        used = used + MutationTarget::NUMBERS;
-        index = index + 1;
+        used += MutationTarget::NUMBERS;
+        index += 1;
         cursor = next;
     }
     Listed {

@@ -9,6 +9,7 @@ ghost use Rattle.check_findings.specs.InsertFindings.{inserted_all};
 ghost use Rattle.check_quick.specs.QuickAnswers.{previous_of};
 ghost use Rattle.check_set.specs.Listed.{previous_listed, after_listed, FindingsListedAs, table_length};
 
+use crate::check_set::CheckPlace;
 use crate::list_patch;
 use check_findings::{envelope_checks, ids, insert_findings};
 use patch_walk::{SetCursor, SetStep};
@@ -16,11 +17,11 @@ use projection_patch::patch::{
     ProjectionPatchEdition, ProjectionPatchEnvelope, ProjectionPatchSet,
 };
 
-// How many records there are, of the patch of an index or of the set.
-#[derive(Drop)]
-pub enum FindingsListed {
-    Patch(usize, usize),
-    Set(usize),
+// Where the findings are, and how many records of them.
+#[derive(Clone, Copy)]
+pub struct FindingsListed {
+    pub place: CheckPlace,
+    pub count: usize,
 }
 
 impl FindingsListed {
@@ -88,19 +89,27 @@ pub fn list_patches(
     let mut done: usize = 0;
     let mut kept: usize = 0;
     while 0 < cursor.patches_left {
-        let Ok(SetStep::Head(head, inside)) = patch_walk::next_step(set, cursor, false, edition)
-        else {
-            return FindingsListed::Set(kept);
+        let Ok(step) = patch_walk::next_step(set, cursor, false, edition) else {
+            break;
+        };
+        let SetStep::Head(head, inside) = step else {
+            break;
         };
         let patch = list_patch::list_patch(set, edition, head, inside, records);
         if 0 < patch.count {
-            return FindingsListed::Patch(done, patch.count);
+            return FindingsListed {
+                place: CheckPlace::Patch(done),
+                count: patch.count,
+            };
         }
         let envelope = head.envelope;
         kept = insert_after(records, kept, &mut ids, done, previous, envelope);
         previous = Some(envelope);
         cursor = patch.next;
-        done = done + 1;
+        done += 1;
     }
-    FindingsListed::Set(kept)
+    FindingsListed {
+        place: CheckPlace::Set,
+        count: kept,
+    }
 }

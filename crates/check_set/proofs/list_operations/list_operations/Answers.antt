@@ -13,7 +13,9 @@ use Rattle.projection_patch.specs.Meaning.{edition_of}
 use Rattle.patch_walk.specs.Steps.{AtSteps}
 use Rattle.patch_walk.specs.CountLaws.{StepCounts, step_counts}
 use Rattle.patch_walk.specs.Steps.{StepAnswer}
-use Rattle.patch_walk.proofs.Matches.{operation_matches}
+use Rattle.std.specs.Prelude as code
+use Rattle.check_set.proofs.Stands.{operation_stands}
+use Rattle.patch_walk.specs.declared.SetStep.TheVariants as set-step
 use Rattle.check_targets.specs.Targets.{check_target_of}
 use Rattle.check_targets.specs.TargetsLaws.{with_target_front, with_target_length}
 use Rattle.check_targets.specs.Marks.{Marked}
@@ -50,31 +52,15 @@ pub loop-cursor-init : goal.loop-cursor-init
 loop-cursor-init c =
     (omega arith, (omega arith, (refl, (refl, (refl, (marked_none c.args.marks.now c.requires.1, λ os ps here. operation_run_start _ _ _ os ps _ _ _ _ here))))))
 
-pub shape_of-marks-in_default : goal.shape_of-marks-in_default
-shape_of-marks-in_default c = marks-long (goal.at.shape_of-marks-in_default c).At-loop-cursor
-
-pub returns-in_default : goal.returns-in_default
-returns-in_default c =
-    record { listed = λ os ps here. absurd (operation_matches false (edition (goal.at.returns-in_default c).After-next_step) (set (goal.at.returns-in_default c).After-next_step) c.loop-cursor.cursor c.next_step.ensures.is _ ps (c.loop-cursor.invariant.1.1.1.1.1.1 os ps here).here (some_left (goal.at.returns-in_default c).After-next_step) (one_of c.in_default.in_default-own.keys2)); patches = c.loop-cursor.invariant.1.1.1.1.0 }
-
-pub seen_by_mark-seen-requires : goal.seen_by_mark-seen-requires
-seen_by_mark-seen-requires c = (omega (arith, some_left (goal.at.seen_by_mark-seen-requires c).After-next_step), c.loop-cursor.invariant.1.1.1.1.1.0)
-
-pub overflow_add-used : goal.overflow_add-used
-overflow_add-used c = omega (arith, some_left (goal.at.overflow_add-used c).After-next_step, c.loop-cursor.invariant, long (goal.at.overflow_add-used c).Start)
-
-pub overflow_add-index : goal.overflow_add-index
-overflow_add-index c = omega (arith, some_left (goal.at.overflow_add-index c).After-next_step, c.loop-cursor.invariant, long (goal.at.overflow_add-index c).Start)
-
 pub loop-cursor-smaller : goal.loop-cursor-smaller
-loop-cursor-smaller c = omega (arith, (counts (goal.at.loop-cursor-smaller c).After-next_step _ c.in-Operation.is).0)
+loop-cursor-smaller c = omega (arith, (counts (goal.at.loop-cursor-smaller c).After-next_step _ (c.in-Ok.is ∙ ap code.Ok c.in-Operation.is)).0)
 
 pub loop-cursor-preserved : goal.loop-cursor-preserved
 loop-cursor-preserved c =
     let room : c.loop-cursor.used + 3 ≤ length c.loop-cursor.targets = omega (arith, some_left (goal.at.loop-cursor-preserved c).After-next_step) in
     let long = ap length c.seen_by_mark-seen.ensures.kept ∙ with_target_length c.loop-cursor.used _ c.loop-cursor.targets room in
     let front = ap (take (c.loop-cursor.used + 3)) c.seen_by_mark-seen.ensures.kept ∙ with_target_front c.loop-cursor.used (check_target_of c.mutation_target-target.result) c.loop-cursor.targets room in
-    let n = counts (goal.at.loop-cursor-preserved c).After-next_step _ c.in-Operation.is in (
+    let n = counts (goal.at.loop-cursor-preserved c).After-next_step _ (c.in-Ok.is ∙ ap code.Ok c.in-Operation.is) in (
       omega (arith, long, n.0),
       (
         omega (arith, n.0),
@@ -86,7 +72,7 @@ loop-cursor-preserved c =
               n.1 ∙ c.loop-cursor.invariant.1.1.1.1.0,
               (
                 rw front c.seen_by_mark-seen.ensures.marked,
-                λ os ps here. operation_run_turn _ _ _ os ps _ _ (c.loop-cursor.invariant.1.1.1.1.1.1 os ps here) c.next_step.ensures.is _ _ c.in-Operation.is _ _ _ _ _ _ room (c.mutation_target-target.ensures []) (c.before_self-before_self.ensures []) c.seen_by_mark-seen.ensures.seen c.seen_by_mark-seen.ensures.kept (c.insert_operation-kept.ensures.counted, c.insert_operation-kept.ensures.numbers),
+                λ os ps here. operation_run_turn _ _ _ os ps _ _ (c.loop-cursor.invariant.1.1.1.1.1.1 os ps here) c.next_step.ensures.is _ _ (c.in-Ok.is ∙ ap code.Ok c.in-Operation.is) _ _ _ _ _ _ room (c.mutation_target-target.ensures []) (c.before_self-before_self.ensures []) c.seen_by_mark-seen.ensures.seen c.seen_by_mark-seen.ensures.kept (c.insert_operation-kept.ensures.counted, c.insert_operation-kept.ensures.numbers),
               ),
             ),
           ),
@@ -94,8 +80,20 @@ loop-cursor-preserved c =
       ),
     )
 
-pub shape_of-marks : goal.shape_of-marks
-shape_of-marks c = marks-long (goal.at.shape_of-marks c).At-loop-cursor
+pub returns-after-loop-cursor-clause-listed : goal.returns-after-loop-cursor-clause-listed
+returns-after-loop-cursor-clause-listed c = λ os ps here. operation_run_end _ _ _ os ps _ _ (c.loop-cursor.invariant.1.1.1.1.1.1 os ps here) c.loop-cursor-test.false
 
-pub returns : goal.returns
-returns c = record { listed = λ os ps here. operation_run_end _ _ _ os ps _ _ (c.loop-cursor.invariant.1.1.1.1.1.1 os ps here) c.loop-cursor-test.false; patches = c.loop-cursor.invariant.1.1.1.1.0 }
+pub returns-in_default-clause-listed : goal.returns-in_default-clause-listed
+returns-in_default-clause-listed c =
+    λ os ps here. let s = operation_stands false (edition_of c.args.edition) c.args.set.now c.loop-cursor.cursor _ ps (c.loop-cursor.invariant.1.1.1.1.1.1 os ps here).here c.loop-cursor-test.true in
+    let z : ◌≡◌ {A = ℕ} 0 1 = cc (sym c.in_default.is ∙ c.next_step.ensures.is ∙ s.2) in absurd (omega arith)
+
+pub returns-in_default-step : goal.returns-in_default-step
+returns-in_default-step c =
+    record {
+      listed = λ os ps here.
+          let s = operation_stands false (edition_of c.args.edition) c.args.set.now c.loop-cursor.cursor _ ps (c.loop-cursor.invariant.1.1.1.1.1.1 os ps here).here c.loop-cursor-test.true in
+          let same : c.in-Ok.step ≡ set-step.Operation s.0 s.1 = cc (sym c.in-Ok.is ∙ c.next_step.ensures.is ∙ s.2) in
+          absurd (c.in_default-step.not-Operation _ _ same);
+      patches = c.loop-cursor.invariant.1.1.1.1.0;
+    }

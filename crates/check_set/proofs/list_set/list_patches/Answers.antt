@@ -14,7 +14,9 @@ use Rattle.projection_patch.specs.Meaning.{edition_of}
 use Rattle.patch_walk.specs.Steps.{AtSteps}
 use Rattle.patch_walk.specs.CountLaws.{StepCounts, step_counts}
 use Rattle.patch_walk.specs.Steps.{StepAnswer}
-use Rattle.patch_walk.proofs.Matches.{head_matches}
+use Rattle.std.specs.Prelude as code
+use Rattle.check_set.proofs.Stands.{head_stands}
+use Rattle.patch_walk.specs.declared.SetStep.TheVariants as set-step
 use Rattle.check_quick.specs.QuickAnswers.{previous_of}
 use Rattle.check_set.specs.Listed.{table_length}
 use Rattle.check_set.proofs.PatchRuns.{PatchRun, patch_run_start, patch_run_end, patch_run_found, patch_run_turn}
@@ -43,50 +45,42 @@ room c = omega (arith, c.loop-cursor.invariant.1.0, c.requires)
 pub loop-cursor-init : goal.loop-cursor-init
 loop-cursor-init c = (omega (arith, c.requires), (refl, (search rules, λ ps here. patch_run_start _ _ ps _ _ _ here)))
 
-pub returns-in_default : goal.returns-in_default
-returns-in_default c =
-    λ ps here. absurd (head_matches false (edition (goal.at.returns-in_default c).After-next_step) (set (goal.at.returns-in_default c).After-next_step) c.loop-cursor.cursor c.next_step.ensures.is _ (c.loop-cursor.invariant.1.1.1 ps here).here (some_left (goal.at.returns-in_default c).After-next_step) (one_of c.in_default.in_default-own.keys2))
-
 pub list_patch-patch-requires : goal.list_patch-patch-requires
-list_patch-patch-requires c = omega (arith, (counts (goal.at.list_patch-patch-requires c).After-next_step _ c.in-Head.is).1)
-
-pub shape_of-records-then-patch-gt0 : goal.shape_of-records-then-patch-gt0
-shape_of-records-then-patch-gt0 c =
-    search (rules, c.type_inv.records, c.records-1.given, c.loop-cursor.invariant.1.0)
+list_patch-patch-requires c = omega (arith, (counts (goal.at.list_patch-patch-requires c).After-next_step _ (c.in-Ok.is ∙ ap code.Ok c.in-Head.is)).1)
 
 pub returns-then-patch-gt0 : goal.returns-then-patch-gt0
 returns-then-patch-gt0 c =
-    λ ps here. patch_run_found _ _ ps (c.loop-cursor.invariant.1.1.1 ps here) (omega (arith, here.patches, c.requires)) (room (goal.at.returns-then-patch-gt0 c).After-next_step) c.next_step.ensures.is _ _ c.in-Head.is _ _ c.list_patch-patch.ensures.listed c.if-patch-gt0.true
-
-pub slice_bounds-insert_after-end : goal.slice_bounds-insert_after-end
-slice_bounds-insert_after-end c = sym c.loop-cursor.invariant.1.1.0
-
-pub insert_after-kept-requires : goal.insert_after-kept-requires
-insert_after-kept-requires c =
-    omega (arith, some_left (goal.at.insert_after-kept-requires c).After-next_step, c.loop-cursor.invariant.0, c.loop-cursor.invariant.1.1.0)
-
-pub overflow_add-done : goal.overflow_add-done
-overflow_add-done c =
-    omega (arith, some_left (goal.at.overflow_add-done c).After-next_step, c.loop-cursor.invariant.0)
+    λ ps here. patch_run_found _ _ ps (c.loop-cursor.invariant.1.1.1 ps here) (omega (arith, here.patches, c.requires)) (room (goal.at.returns-then-patch-gt0 c).After-next_step) c.next_step.ensures.is _ _ (c.in-Ok.is ∙ ap code.Ok c.in-Head.is) _ _ c.list_patch-patch.ensures.listed c.if-patch-gt0.true
 
 pub loop-cursor-smaller : goal.loop-cursor-smaller
 loop-cursor-smaller c =
-    let n = counts (goal.at.loop-cursor-smaller c).After-next_step _ c.in-Head.is in
+    let n = counts (goal.at.loop-cursor-smaller c).After-next_step _ (c.in-Ok.is ∙ ap code.Ok c.in-Head.is) in
     omega (arith, n.0, c.list_patch-patch.ensures.patches)
 
 pub loop-cursor-preserved : goal.loop-cursor-preserved
 loop-cursor-preserved c =
-    let n = counts (goal.at.loop-cursor-preserved c).After-next_step _ c.in-Head.is in
+    let n = counts (goal.at.loop-cursor-preserved c).After-next_step _ (c.in-Ok.is ∙ ap code.Ok c.in-Head.is) in
     let space : c.loop-cursor.done < length c.loop-cursor.ids = omega (arith, some_left (goal.at.loop-cursor-preserved c).After-next_step, c.loop-cursor.invariant.0, c.loop-cursor.invariant.1.1.0) in (
       omega (arith, n.0, c.list_patch-patch.ensures.patches, c.loop-cursor.invariant.0),
       (
         search (rules, c.loop-cursor.invariant.1.0, c.type_inv.records, c.records-1.given, c.type_inv.records, c.records-in-loop-cursor-1.given),
         (
           ap length c.insert_after-kept.ensures.remembered ∙ length-set c.loop-cursor.ids c.loop-cursor.done _ ∙ c.loop-cursor.invariant.1.1.0,
-          λ ps here. patch_run_turn _ _ ps (c.loop-cursor.invariant.1.1.1 ps here) (omega (arith, here.patches, c.requires)) (room (goal.at.loop-cursor-preserved c).After-next_step) c.next_step.ensures.is _ _ c.in-Head.is _ _ c.list_patch-patch.ensures.listed (omega (arith, c.if-patch-gt0.false)) _ _ _ space (c.insert_after-kept.ensures.counted, c.insert_after-kept.ensures.numbers) c.insert_after-kept.ensures.remembered,
+          λ ps here. patch_run_turn _ _ ps (c.loop-cursor.invariant.1.1.1 ps here) (omega (arith, here.patches, c.requires)) (room (goal.at.loop-cursor-preserved c).After-next_step) c.next_step.ensures.is _ _ (c.in-Ok.is ∙ ap code.Ok c.in-Head.is) _ _ c.list_patch-patch.ensures.listed (omega (arith, c.if-patch-gt0.false)) _ _ _ space (c.insert_after-kept.ensures.counted, c.insert_after-kept.ensures.numbers) c.insert_after-kept.ensures.remembered,
         ),
       ),
     )
 
-pub returns : goal.returns
-returns c = λ ps here. patch_run_end _ _ ps (c.loop-cursor.invariant.1.1.1 ps here) c.loop-cursor-test.false
+pub returns-after-loop-cursor : goal.returns-after-loop-cursor
+returns-after-loop-cursor c = λ ps here. patch_run_end _ _ ps (c.loop-cursor.invariant.1.1.1 ps here) c.loop-cursor-test.false
+
+pub returns-in_default : goal.returns-in_default
+returns-in_default c =
+    λ ps here. let s = head_stands false (edition_of c.args.edition) c.args.set.now c.loop-cursor.cursor _ (c.loop-cursor.invariant.1.1.1 ps here).here c.loop-cursor-test.true in
+    let z : ◌≡◌ {A = ℕ} 0 1 = cc (sym c.in_default.is ∙ c.next_step.ensures.is ∙ s.2) in absurd (omega arith)
+
+pub returns-in_default-step : goal.returns-in_default-step
+returns-in_default-step c =
+    λ ps here. let s = head_stands false (edition_of c.args.edition) c.args.set.now c.loop-cursor.cursor _ (c.loop-cursor.invariant.1.1.1 ps here).here c.loop-cursor-test.true in
+    let same : c.in-Ok.step ≡ set-step.Head s.0 s.1 = cc (sym c.in-Ok.is ∙ c.next_step.ensures.is ∙ s.2) in
+    absurd (c.in_default-step.not-Head _ _ same)
