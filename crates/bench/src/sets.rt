@@ -2,7 +2,6 @@
 use check_quick::quick_set;
 use check_quick::quick_set::QuickCheck;
 use check_set::check_set as set_check;
-use check_set::check_set::PatchSetCheck;
 use projection_patch::patch::ProjectionPatchEdition;
 
 // The surface of the first patch, which no rule looks at; a new one for each use keeps the uses apart.
@@ -34,12 +33,8 @@ fn quick_check(set: &[u8]) -> u64 {
 // The number of findings, or the refusal's number.
 fn check(set: &[u8], findings: &mut [u64]) -> u64 {
     match set_check::check(set, ProjectionPatchEdition::V1, findings) {
-        PatchSetCheck::Checked {
-            place: _,
-            logical,
-            written: _,
-        } => logical as u64,
-        PatchSetCheck::Refused(fault) => fault.number(),
+        Ok(checked) => checked.logical as u64,
+        Err(fault) => fault.number(),
     }
 }
 

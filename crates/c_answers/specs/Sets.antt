@@ -6,7 +6,8 @@ use Rattle.projection_patch.specs.ReadAnswers.{fault_of}
 use Rattle.check_set.specs.declared.check_set.CheckPlace.{CheckPlace}
 use Rattle.check_set.specs.declared.check_set.CheckPlace.TheVariants as place
 use Rattle.check_set.specs.declared.check_set.PatchSetCheck.{PatchSetCheck}
-use Rattle.check_set.specs.declared.check_set.PatchSetCheck.TheVariants as set-check
+use Rattle.std.specs.Prelude as code
+use Rattle.projection_patch.specs.declared.read_values.ProjectionPatchReadFault.{ProjectionPatchReadFault}
 use Rattle.set_dependencies.specs.DependsAnswers.{depends_refusal_of}
 use Rattle.set_dependencies.specs.declared.depends.DependenciesAnswer.{DependenciesAnswer}
 use Rattle.set_dependencies.specs.declared.depends.DependenciesAnswer.TheVariants as dependencies
@@ -27,9 +28,9 @@ abbrev pub checked_at : CheckPlace → (logical written : ℕ) → GeysertrayChe
 checked_at (place.Patch i) logical written = checked_in 1 i logical written
 checked_at place.Set logical written = checked_in 0 0 logical written
 
-abbrev pub check_told : PatchSetCheck → GeysertrayChecked
-check_told (set-check.Checked p logical written) = checked_at p logical written
-check_told (set-check.Refused f) = unchecked_set 2 (fault_number (fault_of f))
+abbrev pub check_told : code.Result PatchSetCheck ProjectionPatchReadFault → GeysertrayChecked
+check_told (code.Ok c) = checked_at c.place c.logical c.written
+check_told (code.Err f) = unchecked_set 2 (fault_number (fault_of f))
 
 -- ---- what a set depends on
 

@@ -3,6 +3,7 @@ ghost use Rattle.std.specs.Prelude.{◌≡◌};
 ghost use Rattle.c_answers.specs.Sets.{checked_in, checked_at, unchecked_set, check_told, never_by, needs_keys, not_told, dependencies_told};
 
 use check_set::check_set::{CheckPlace, PatchSetCheck};
+use projection_patch::read_values::ProjectionPatchReadFault;
 use set_dependencies::depends::DependenciesAnswer;
 
 // 0, and whether the findings are those of a patch (1, and its index from 0) or of the set (0, also where there are none), how many there are
@@ -69,16 +70,12 @@ fn checked_at(place: CheckPlace, logical: usize, written: usize) -> GeysertrayCh
     }
 }
 
-pub fn check_told(answer: PatchSetCheck) -> GeysertrayChecked
+pub fn check_told(answer: Result<PatchSetCheck, ProjectionPatchReadFault>) -> GeysertrayChecked
     ensures { result ≡ check_told answer }
 {
     match answer {
-        PatchSetCheck::Checked {
-            place,
-            logical,
-            written,
-        } => checked_at(place, logical, written),
-        PatchSetCheck::Refused(fault) => unchecked(REJECTED, fault.number()),
+        Ok(checked) => checked_at(checked.place, checked.logical, checked.written),
+        Err(fault) => unchecked(REJECTED, fault.number()),
     }
 }
 

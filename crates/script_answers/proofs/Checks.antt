@@ -23,11 +23,11 @@ use Rattle.bytes_printer.proofs.PrintsLaws.{◌⨾◌, ends_within}
 use Rattle.projection_patch.specs.ReadAnswers.{fault_to, fault_of}
 use Rattle.projection_patch.specs.FaultLaws.{fault_back}
 use Rattle.projection_patch.specs.declared.read_values.ProjectionPatchReadFault.{ProjectionPatchReadFault}
-use Rattle.check_set.specs.CheckAnswers.{place_to, check_answer, check_numbers}
+use Rattle.check_set.specs.CheckAnswers.{place_to, checked_to, check_answer, check_numbers}
 use Rattle.check_set.specs.declared.check_set.CheckPlace.{CheckPlace}
 use Rattle.check_set.specs.declared.check_set.CheckPlace.TheVariants as place
 use Rattle.check_set.specs.declared.check_set.PatchSetCheck.{PatchSetCheck}
-use Rattle.check_set.specs.declared.check_set.PatchSetCheck.TheVariants as set-check
+use Rattle.std.specs.Prelude as code
 use Rattle.script_answers.specs.CheckOf.{CheckOf}
 
 -- ---- the place
@@ -46,7 +46,7 @@ set_place in_set is = refl
 abbrev refusal : ProjectionPatchReadFault → List ℕ
 refusal f = 75 ∷ fields (decimal (fault_number (fault_of f)) ∷ [])
 
-refused_reading : (reading : SetReading) (room : ℕ) (f : ProjectionPatchReadFault) → set-check.Refused f ≡ check_answer reading room → refusal f ≡ check_lines reading
+refused_reading : (reading : SetReading) (room : ℕ) (f : ProjectionPatchReadFault) → code.Err f ≡ check_answer reading room → refusal f ≡ check_lines reading
 unfolding check_lines
 refused_reading (patches ps) room f is = absurd (let z : ◌≡◌ {A = ℕ} 0 1 = cc in omega arith)
 refused_reading (fault g) room f is =
@@ -62,33 +62,34 @@ pub record ToldFindings (f : Findings) (where_found : CheckPlace) (logical : ℕ
   pub words : take (record_length * logical) records ≡ finding_words f.found
 
 module _ (ps : List Patch) (lent : List ℕ) (room : record_length * length (findings ps).found ≤ length lent) where
-  findings_told : (p : CheckPlace) (logical written : ℕ) (records : List ℕ) → set-check.Checked p logical written ≡ check_answer (patches ps) (length lent) → records ≡ check_numbers (patches ps) lent
-      → ToldFindings (findings ps) p logical records
+  findings_told : (c : PatchSetCheck) (records : List ℕ) → code.Ok c ≡ check_answer (patches ps) (length lent) → records ≡ check_numbers (patches ps) lent
+      → ToldFindings (findings ps) c.place c.logical records
   unfolding checked_list
-  findings_told p logical written records answered numbers =
+  findings_told c records answered numbers =
+      let same : c ≡ checked_to (checked_list ps (length lent)) = cc in
       let found = (findings ps).found in
       let all : fitting (length lent) found ≡ found = fitting_all (length lent) found room in
-      let count : logical ≡ length found = cc in
+      let count : c.logical ≡ length found = ap (λ (x : PatchSetCheck). x.logical) same in
       record {
-        place_is = cc;
+        place_is = ap (λ (x : PatchSetCheck). x.place) same;
         counted = count;
         words = ap₂ (λ (n : ℕ) (l : List ℕ). take (record_length * n) l) (count ∙ sym (ap length all)) numbers ∙ write_findings_front found lent ∙ ap finding_words all;
       }
 
-module _ (ed : Edition) (set : List ℕ) (answer : PatchSetCheck) (records : List ℕ) (h : CheckOf ed set answer records) where
-  pub check_refused_lines : (f : ProjectionPatchReadFault) → answer ≡ set-check.Refused f → refusal f ≡ check_lines (read_set ed set)
+module _ (ed : Edition) (set : List ℕ) (answer : code.Result PatchSetCheck ProjectionPatchReadFault) (records : List ℕ) (h : CheckOf ed set answer records) where
+  pub check_refused_lines : (f : ProjectionPatchReadFault) → answer ≡ code.Err f → refusal f ≡ check_lines (read_set ed set)
   check_refused_lines f is = refused_reading (read_set ed set) (length h.lent) f (sym is ∙ h.answered)
 
   -- the line of the place and the count, and a line for each record
-  module _ {l m n : List ℕ} {at r s : Option ℕ} (p : CheckPlace) (logical written : ℕ) (is : answer ≡ set-check.Checked p logical written)
-      (head : (f : Findings) → p ≡ place_to f.place → logical ≡ length f.found → Prints l at (checked_line f) m r)
-      (more : (fs : List Finding) → length fs ≡ logical → take (record_length * logical) records ≡ finding_words fs → Within m r → Prints m r (flat_map finding_line fs) n s) where
+  module _ {l m n : List ℕ} {at r s : Option ℕ} (c : PatchSetCheck) (is : answer ≡ code.Ok c)
+      (head : (f : Findings) → c.place ≡ place_to f.place → c.logical ≡ length f.found → Prints l at (checked_line f) m r)
+      (more : (fs : List Finding) → length fs ≡ c.logical → take (record_length * c.logical) records ≡ finding_words fs → Within m r → Prints m r (flat_map finding_line fs) n s) where
     reading_lines : (reading : SetReading) → read_set ed set ≡ reading → Prints l at (check_lines reading) n s
     unfolding check_lines
     reading_lines (fault f) e = absurd (let z : ◌≡◌ {A = ℕ} 0 1 = cc (is, h.answered, e) in omega arith)
     reading_lines (patches ps) e =
         let most = findings_most ed ps (was_encoded ed set ps h.bytes e).1 in
-        let told = findings_told ps h.lent (omega (arith, most, h.room)) p logical written records
+        let told = findings_told ps h.lent (omega (arith, most, h.room)) c records
         (sym is ∙ h.answered ∙ ap (λ (x : SetReading). check_answer x (length h.lent)) e) (h.written ∙ ap (λ (x : SetReading). check_numbers x h.lent) e) in
         let first = head (findings ps) told.place_is told.counted in
         first ⨾ more (findings ps).found (sym told.counted) told.words (ends_within first)

@@ -12,6 +12,7 @@ ghost use Rattle.check_set.specs.CheckAnswers.{place_to};
 ghost use Rattle.script_answers.specs.CheckOf.{finding_told, CheckOf};
 
 use check_set::check_set::{CheckPlace, PatchSetCheck};
+use projection_patch::read_values::ProjectionPatchReadFault;
 
 fn print_finding(out: &mut [u8], at: Option<usize>, kind: u64, domain: u64, secondary: u64) -> Option<usize>
     ensures { Prints out.old at (finding_line (finding_told kind domain secondary)) out.new result }
@@ -62,19 +63,15 @@ fn print_checked(out: &mut [u8], at: Option<usize>, place: CheckPlace, logical: 
 }
 
 // What the check of a set answered and wrote, where it was lent room for every record.
-pub fn print_check(out: &mut [u8], at: Option<usize>, answer: PatchSetCheck, records: &[u64]) -> Option<usize>
+pub fn print_check(out: &mut [u8], at: Option<usize>, answer: Result<PatchSetCheck, ProjectionPatchReadFault>, records: &[u64]) -> Option<usize>
     ensures { (ed : Edition) (set : List ℕ) → CheckOf ed set answer records.now → Prints out.old at (check_lines (read_set ed set)) out.new result }
 {
     match answer {
-        PatchSetCheck::Checked {
-            place,
-            logical,
-            written: _,
-        } => {
-            let head = print_checked(out, at, place, logical);
-            print_findings(out, head, records, logical)
+        Ok(checked) => {
+            let head = print_checked(out, at, checked.place, checked.logical);
+            print_findings(out, head, records, checked.logical)
         }
-        PatchSetCheck::Refused(fault) => {
+        Err(fault) => {
             listing_lines::print_number_line(out, at, 75, fault.number())
         }
     }

@@ -41,7 +41,7 @@ use Rattle.check_quick.specs.declared.inspection.SetInspection.TheVariants as in
 use Rattle.patch_locate.specs.Answers.{located_set}
 use Rattle.check_set.specs.CheckAnswers.{place_to, checked_to}
 use Rattle.check_set.specs.declared.check_set.CheckPlace.{CheckPlace}
-use Rattle.check_set.specs.declared.check_set.PatchSetCheck.TheVariants as set-check
+use Rattle.check_set.specs.declared.check_set.PatchSetCheck.{PatchSetCheck}
 use Rattle.session_lifecycle.specs.Meaning.{refusal_of}
 use Rattle.session_lifecycle.specs.declared.diagnostics.ShellRefusal.{ShellRefusal}
 use Rattle.session_gates.specs.Gates as gates
@@ -100,16 +100,19 @@ first_written : (f : Finding) (fs : List Finding) → write_findings (f ∷ fs) 
 unfolding write_findings fitting finding_words finding_key flat_map
 first_written f fs = refl
 
-module _ (ps : List Patch) {p : CheckPlace} {n w : ℕ} (told : set-check.Checked p n w ≡ checked_to (checked_list ps 3)) where
-  counted : n ≡ length (findings ps).found
-  unfolding checked_list
-  counted = cc
+module _ (ps : List Patch) {c : PatchSetCheck} (told : Ok {E = ProjectionPatchReadFault} c ≡ Ok (checked_to (checked_list ps 3))) where
+  same_check : c ≡ checked_to (checked_list ps 3)
+  same_check = cc
 
-  placed : p ≡ place_to (findings ps).place
+  counted : c.logical ≡ length (findings ps).found
   unfolding checked_list
-  placed = cc
+  counted = ap (λ (x : PatchSetCheck). x.logical) same_check
 
-  pub findings_none : n ≡ 0 → Ok tt ≡ step_to (no_findings (findings ps).place (findings ps).found)
+  placed : c.place ≡ place_to (findings ps).place
+  unfolding checked_list
+  placed = ap (λ (x : PatchSetCheck). x.place) same_check
+
+  pub findings_none : c.logical ≡ 0 → Ok tt ≡ step_to (no_findings (findings ps).place (findings ps).found)
   unfolding no_findings
   findings_none z = go (findings ps).found (sym counted ∙ z)
     where
@@ -117,16 +120,16 @@ module _ (ps : List Patch) {p : CheckPlace} {n w : ℕ} (told : set-check.Checke
       go [] e = refl
       go (f ∷ fs) e = absurd (omega arith)
 
-  pub findings_first : (n ≡ 0 → ⊥) → (out : List ℕ) → out ≡ write_findings (findings ps).found (0 ∷ 0 ∷ 0 ∷ [])
-      → Err (reasons.HasFindings p n (get_or out 0 0) (get_or out 1 0) (get_or out 2 0)) ≡ step_to (no_findings (findings ps).place (findings ps).found)
+  pub findings_first : (c.logical ≡ 0 → ⊥) → (out : List ℕ) → out ≡ write_findings (findings ps).found (0 ∷ 0 ∷ 0 ∷ [])
+      → Err (reasons.HasFindings c.place c.logical (get_or out 0 0) (get_or out 1 0) (get_or out 2 0)) ≡ step_to (no_findings (findings ps).place (findings ps).found)
   unfolding no_findings
   findings_first some_found out is = go (findings ps).found counted is
     where
-      go : (fs : List Finding) → n ≡ length fs → out ≡ write_findings fs (0 ∷ 0 ∷ 0 ∷ []) → Err (reasons.HasFindings p n (get_or out 0 0) (get_or out 1 0) (get_or out 2 0)) ≡ step_to (no_findings (findings ps).place fs)
+      go : (fs : List Finding) → c.logical ≡ length fs → out ≡ write_findings fs (0 ∷ 0 ∷ 0 ∷ []) → Err (reasons.HasFindings c.place c.logical (get_or out 0 0) (get_or out 1 0) (get_or out 2 0)) ≡ step_to (no_findings (findings ps).place fs)
       go [] e h = absurd (some_found e)
       go (f ∷ fs) e h = rw (placed, e, h, first_written f fs)
 
-pub findings_unread : (ps : List Patch) {f : ProjectionPatchReadFault} {r : Result (Unit {0}) BatchReason} → set-check.Refused f ≡ checked_to (checked_list ps 3) → r ≡ step_to (no_findings (findings ps).place (findings ps).found)
+pub findings_unread : (ps : List Patch) {f : ProjectionPatchReadFault} {r : Result (Unit {0}) BatchReason} → Err f ≡ Ok {E = ProjectionPatchReadFault} (checked_to (checked_list ps 3)) → r ≡ step_to (no_findings (findings ps).place (findings ps).found)
 findings_unread ps h = absurd (let z : ◌≡◌ {A = ℕ} 0 1 = cc in omega arith)
 
 -- ---- the cursor

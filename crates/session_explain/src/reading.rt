@@ -10,7 +10,6 @@ ghost use Rattle.session_explain.specs.Reasons.{found_to, step_to};
 
 use crate::reasons::BatchReason;
 use check_set::check_set as checking;
-use check_set::check_set::PatchSetCheck;
 use check_set::list_set::FindingsListed;
 use patch_locate::set;
 use projection_patch::patch::ProjectionPatchEdition;
@@ -28,18 +27,15 @@ pub fn explain_findings(set: &[u8], edition: ProjectionPatchEdition) -> Result<(
 {
     let mut first = [0u64; FindingsListed::RECORD];
     match checking::check(set, edition, &mut first) {
-        PatchSetCheck::Checked {
-            place,
-            logical,
-            written: _,
-        } => {
+        Ok(checked) => {
+            let logical = checked.logical;
             if logical == 0 {
                 return Ok(());
             }
             Err(BatchReason::HasFindings(
-                place, logical, first[0], first[1], first[2],
+                checked.place, logical, first[0], first[1], first[2],
             ))
         }
-        PatchSetCheck::Refused(_) => Ok(()),
+        Err(_) => Ok(()),
     }
 }

@@ -25,18 +25,14 @@ fn show_place(rt: &impl Print, place: CheckPlace) -> io::Result<()> {
     }
 }
 
-fn show_answer(rt: &impl Print, answer: PatchSetCheck) -> io::Result<()> {
+fn show_answer(rt: &impl Print, answer: Result<PatchSetCheck, ProjectionPatchReadFault>) -> io::Result<()> {
     match answer {
-        PatchSetCheck::Checked {
-            place,
-            logical,
-            written,
-        } => {
-            show_place(rt, place)?;
-            show(rt, logical as u64)?;
-            show(rt, written as u64)
+        Ok(checked) => {
+            show_place(rt, checked.place)?;
+            show(rt, checked.logical as u64)?;
+            show(rt, checked.written as u64)
         }
-        PatchSetCheck::Refused(fault) => rt.print(fault.number()),
+        Err(fault) => rt.print(fault.number()),
     }
 }
 
