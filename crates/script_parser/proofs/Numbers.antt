@@ -30,7 +30,7 @@ module _ {separator : ℕ} {line : List ℕ} {from count i : ℕ} {values : List
       let left : count - i ≡ suc (count - (i + 1)) = omega arith in
       r.same next ∙ ap (λ (k : ℕ). numbers k (λ ns. next (r.so_far ++ ns)) (fields_after separator line at)) left
 
-  pub reading_turn : i < count → count ≤ most_numbers → (f : Option (ℕ × ℕ)) (n to : ℕ) → NumberAfter separator line at f → f ≡ Some (n , to) → Reading separator line from count (i + 1) (set values i n) to
+  pub reading_turn : i < count → count ≤ most_numbers → (f : Option (ℕ × ℕ)) (n to : ℕ) → NumberAfter separator line at f → f ≡ Some (n, to) → Reading separator line from count (i + 1) (set values i n) to
   reading_turn h few f n to told is =
       let left : most_numbers - i ≡ suc (most_numbers - (i + 1)) = omega arith in
       record {

@@ -71,7 +71,7 @@ module _ {line : List ℕ} {end : ℕ} {keys : List ℕ} {count from : ℕ} (k :
       pub keyed_off : r ≡ None → (next : List ℕ → Command) → up_to_end line_keys next (fields_after space line end) ≡ other
       keyed_off is next = onward next ∙ ap (λ (x : Option (ℕ × ℕ)). number_then space line x (λ n. up_to_end (line_keys - (count + 1)) (λ ks. next (take count keys ++ (n ∷ ks))))) is
 
-      pub keyed_turn : (n to : ℕ) → r ≡ Some (n , to) → KeyedLine line end (set keys count n) (count + 1) to
+      pub keyed_turn : (n to : ℕ) → r ≡ Some (n, to) → KeyedLine line end (set keys count n) (count + 1) to
       keyed_turn n to is =
           let kept : take (count + 1) (set keys count n) ≡ take count keys ++ (n ∷ []) =
           ap (λ (m : ℕ). take m (set keys count n)) (add-one count) ∙ take-suc-set keys count n (omega (arith, k.places)) in

@@ -84,3 +84,8 @@ script_command_of line (WithSet s i) = set_from line i (with_set_of s)
 script_command_of line (Group e) = script.group_arguments (fields_after space line e)
 script_command_of line (Page e) = script.page_arguments (fields_after space line e)
 script_command_of line Other = script.other
+
+-- a command, or any other line
+abbrev pub asked_of : List ℕ → code.Option ScriptCommand → Command
+asked_of line (code.Some c) = script_command_of line c
+asked_of line code.None = script.other

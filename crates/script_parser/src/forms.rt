@@ -1,13 +1,12 @@
 // The forms of commands: how many numbers each takes, whether a set stands behind them, and the command that they make.
-ghost use Rattle.std.specs.Prelude.{◌≡◌, true, false, List, [], ℕ, ◌<◌, ◌≤◌};
+ghost use Rattle.std.specs.Prelude.{◌≡◌, true, false, List, [], ℕ, ◌<◌, ◌≤◌, MatchOption};
 ghost use Rattle.std.proofs.Math.Option.{some};
-ghost use Rattle.spec_patch.specs.Sizes.{set_bytes};
 ghost use Rattle.spec_replay.specs.Script as script;
-ghost use Rattle.spec_replay.specs.Script.{places_lent, bytes_lent, given, numbered_edition};
+ghost use Rattle.spec_replay.specs.Script.{numbered_edition};
 ghost use Rattle.session_lifecycle.specs.Meaning.{stimulus_of};
 ghost use Rattle.script_parser.specs.Fields.{most_numbers};
-ghost use Rattle.script_parser.specs.Forms.{up_to, with_slot, first_base, form_count, form_at};
-ghost use Rattle.script_parser.specs.Meaning.{edition_read, set_from, script_command_of};
+ghost use Rattle.script_parser.specs.Forms.{first_base, form_count, form_at};
+ghost use Rattle.script_parser.specs.Meaning.{edition_read, set_from, script_command_of, asked_of};
 
 use crate::fields::NumberFields;
 use crate::words::FormAt;
@@ -44,34 +43,11 @@ pub(crate) fn has_set(form: usize) -> bool
     0x10 <= shapes[form]
 }
 
-fn binding(node: u64, slot: u64) -> ScriptCommand
-    ensures { (line : List ℕ) → script_command_of line result ≡ with_slot slot (λ s. script.binding (record { node = node; slot = s })) }
+// A number that is no greater than the most.
+fn at_most(number: u64, most: u64) -> Option<u64>
+    ensures { MatchOption result (most < number) (λ n. (n ≡ number) × (n ≤ most)) }
 {
-    if slot <= 0xffff_ffff {
-        ScriptCommand::Setup(SetupLine::Binding(node, slot as u32))
-    } else {
-        ScriptCommand::Other
-    }
-}
-
-fn value_binding(node: u64, slot: u64) -> ScriptCommand
-    ensures { (line : List ℕ) → script_command_of line result ≡ with_slot slot (script.value_binding node) }
-{
-    if slot < 0x1_0000_0000 {
-        ScriptCommand::Call(CallLine::ValueBinding(node, slot as u32))
-    } else {
-        ScriptCommand::Other
-    }
-}
-
-fn mark_binding(node: u64, slot: u64) -> ScriptCommand
-    ensures { (line : List ℕ) → script_command_of line result ≡ with_slot slot (script.mark_binding node) }
-{
-    if slot < 0x1_0000_0000 {
-        ScriptCommand::Call(CallLine::MarkBinding(node, slot as u32))
-    } else {
-        ScriptCommand::Other
-    }
+    if number <= most { Some(number) } else { None }
 }
 
 fn lifecycle_step(command: ShellLifecycleCommand, bytes: u64) -> ScriptCommand
@@ -94,83 +70,47 @@ pub(crate) fn numbered_edition(number: u64) -> Option<ProjectionPatchEdition>
     }
 }
 
-fn edition(number: u64) -> ScriptCommand
-    ensures { (line : List ℕ) → script_command_of line result ≡ given (numbered_edition (some number)) script.edition }
-{
-    match numbered_edition(number) {
-        Some(edition) => ScriptCommand::Call(CallLine::Edition(edition)),
-        None => ScriptCommand::Other,
-    }
-}
-
-// No more room is lent than a set may have bytes.
-fn conversion(room: u64, from: usize) -> ScriptCommand
-    ensures { (line : List ℕ) → script_command_of line result ≡ set_from line from (λ set. up_to set_bytes room (λ n. script.convert n set)) }
-{
-    if room <= 32768 {
-        ScriptCommand::WithSet(SetLine::Convert(room as u16), from)
-    } else {
-        ScriptCommand::Other
-    }
-}
-
-// No more places are lent than a line may ask for.
-fn dependencies(room: u64, from: usize) -> ScriptCommand
-    ensures { (line : List ℕ) → script_command_of line result ≡ set_from line from (λ set. up_to places_lent room (λ n. script.depends n set)) }
-{
-    if room <= 16384 {
-        ScriptCommand::WithSet(SetLine::Depends(room as u16), from)
-    } else {
-        ScriptCommand::Other
-    }
-}
-
-// No more bytes are lent than a line may ask for.
-fn paper(collection: u64, room: u64) -> ScriptCommand
-    ensures { (line : List ℕ) → script_command_of line result ≡ up_to bytes_lent room (script.print collection) }
-{
-    if room <= 131072 {
-        ScriptCommand::Call(CallLine::Print(collection, room))
-    } else {
-        ScriptCommand::Other
-    }
-}
-
-// The command of a form of a second word.
-fn second_command(form: usize, values: [u64; NumberFields::MOST]) -> ScriptCommand
+// The command of a form of a second word; None where a number is not one that it takes.
+fn second_command(form: usize, values: [u64; NumberFields::MOST]) -> Option<ScriptCommand>
     requires { form < first_base }
-    ensures { (line : List ℕ) → script_command_of line result ≡ (form_at form).makes values [] }
+    ensures { (line : List ℕ) → asked_of line result ≡ (form_at form).makes values [] }
 {
     let first = values[0];
     let second = values[1];
     match form {
-        0 => lifecycle_step(ShellLifecycleCommand::Activate, first),
-        1 => lifecycle_step(ShellLifecycleCommand::Suspend, first),
-        2 => lifecycle_step(ShellLifecycleCommand::Resume, first),
-        3 => lifecycle_step(ShellLifecycleCommand::Close, first),
-        4 => ScriptCommand::Call(CallLine::Apply(ShellTransitionInput {
+        0 => Some(lifecycle_step(ShellLifecycleCommand::Activate, first)),
+        1 => Some(lifecycle_step(ShellLifecycleCommand::Suspend, first)),
+        2 => Some(lifecycle_step(ShellLifecycleCommand::Resume, first)),
+        3 => Some(lifecycle_step(ShellLifecycleCommand::Close, first)),
+        4 => Some(ScriptCommand::Call(CallLine::Apply(ShellTransitionInput {
             stimulus: ShellLifecycleStimulus::ExplicitNoOp,
             stimulus_bytes: first,
-        })),
-        6 => value_binding(first, second),
-        7 => ScriptCommand::Call(CallLine::ValueNode(first)),
-        8 => ScriptCommand::Call(CallLine::ValueEntry(first, second)),
-        10 => mark_binding(first, second),
-        11 => ScriptCommand::Call(CallLine::MarkNode(first)),
-        12 => ScriptCommand::Call(CallLine::MarkEntry(first, second)),
-        _ => ScriptCommand::Other,
+        }))),
+        6 => {
+            let slot = at_most(second, 0xffff_ffff)?;
+            Some(ScriptCommand::Call(CallLine::ValueBinding(first, slot as u32)))
+        }
+        7 => Some(ScriptCommand::Call(CallLine::ValueNode(first))),
+        8 => Some(ScriptCommand::Call(CallLine::ValueEntry(first, second))),
+        10 => {
+            let marked = at_most(second, 0xffff_ffff)?;
+            Some(ScriptCommand::Call(CallLine::MarkBinding(first, marked as u32)))
+        }
+        11 => Some(ScriptCommand::Call(CallLine::MarkNode(first))),
+        12 => Some(ScriptCommand::Call(CallLine::MarkEntry(first, second))),
+        _ => None,
     }
 }
 
 // The command of a form of a first word, which has no set.
-fn first_command(form: usize, values: [u64; NumberFields::MOST]) -> ScriptCommand
+fn first_command(form: usize, values: [u64; NumberFields::MOST]) -> Option<ScriptCommand>
     requires { (first_base ≤ form) × ((form_at form).with_set ≡ false) }
-    ensures { (line : List ℕ) → script_command_of line result ≡ (form_at form).makes values [] }
+    ensures { (line : List ℕ) → asked_of line result ≡ (form_at form).makes values [] }
 {
     let first = values[0];
     let second = values[1];
     match form {
-        16 => ScriptCommand::Setup(SetupLine::Session(
+        16 => Some(ScriptCommand::Setup(SetupLine::Session(
             first,
             ShellLifecycleLimits {
                 max_transition_stimulus_bytes: second,
@@ -178,26 +118,36 @@ fn first_command(form: usize, values: [u64; NumberFields::MOST]) -> ScriptComman
                 max_patches_per_transition: values[3],
                 max_target_references_per_transition: values[4],
             },
-        )),
-        17 => ScriptCommand::Setup(SetupLine::Node(first)),
-        18 => binding(first, second),
-        19 => ScriptCommand::Setup(SetupLine::Collection(first)),
-        20 => ScriptCommand::Call(CallLine::Create),
-        25 => ScriptCommand::Call(CallLine::Show),
-        27 => ScriptCommand::Call(CallLine::Senders(first)),
-        28 => ScriptCommand::Call(CallLine::Wait(first)),
-        29 => ScriptCommand::Call(CallLine::Turn),
-        30 => edition(first),
-        34 => paper(first, second),
-        36 => ScriptCommand::Call(CallLine::Length(first)),
-        _ => ScriptCommand::Other,
+        ))),
+        17 => Some(ScriptCommand::Setup(SetupLine::Node(first))),
+        18 => {
+            let bound = at_most(second, 0xffff_ffff)?;
+            Some(ScriptCommand::Setup(SetupLine::Binding(first, bound as u32)))
+        }
+        19 => Some(ScriptCommand::Setup(SetupLine::Collection(first))),
+        20 => Some(ScriptCommand::Call(CallLine::Create)),
+        25 => Some(ScriptCommand::Call(CallLine::Show)),
+        27 => Some(ScriptCommand::Call(CallLine::Senders(first))),
+        28 => Some(ScriptCommand::Call(CallLine::Wait(first))),
+        29 => Some(ScriptCommand::Call(CallLine::Turn)),
+        30 => {
+            let edition = numbered_edition(first)?;
+            Some(ScriptCommand::Call(CallLine::Edition(edition)))
+        }
+        // No more bytes are lent than a line may ask for.
+        34 => {
+            let room = at_most(second, 131072)?;
+            Some(ScriptCommand::Call(CallLine::Print(first, room)))
+        }
+        36 => Some(ScriptCommand::Call(CallLine::Length(first))),
+        _ => None,
     }
 }
 
 // The command of a form without a set.
-pub(crate) fn command_of(form: usize, values: [u64; NumberFields::MOST]) -> ScriptCommand
+pub(crate) fn command_of(form: usize, values: [u64; NumberFields::MOST]) -> Option<ScriptCommand>
     requires { (form_at form).with_set ≡ false }
-    ensures { (line : List ℕ) → script_command_of line result ≡ (form_at form).makes values [] }
+    ensures { (line : List ℕ) → asked_of line result ≡ (form_at form).makes values [] }
 {
     if form < FormAt::FIRST {
         second_command(form, values)
@@ -206,14 +156,15 @@ pub(crate) fn command_of(form: usize, values: [u64; NumberFields::MOST]) -> Scri
     }
 }
 
-// The command of a form with a set, whose hex starts at an index of the line.
+// The command of a form with a set, whose hex starts at an index of the line. No more room is lent than a set may have bytes, and no more places
+// than a line may ask for.
 pub(crate) fn set_command(
     form: usize,
     values: [u64; NumberFields::MOST],
     from: usize,
-) -> ScriptCommand
+) -> Option<ScriptCommand>
     requires { (form < form_count) × ((form_at form).with_set ≡ true) }
-    ensures { (line : List ℕ) → script_command_of line result ≡ set_from line from ((form_at form).makes values) }
+    ensures { (line : List ℕ) → asked_of line result ≡ set_from line from ((form_at form).makes values) }
 {
     let first = values[0];
     let batch = BatchLine {
@@ -224,12 +175,18 @@ pub(crate) fn set_command(
         target_references: values[4],
     };
     match form {
-        22 => ScriptCommand::WithSet(SetLine::Batch(batch), from),
-        23 => ScriptCommand::WithSet(SetLine::Check, from),
-        24 => ScriptCommand::WithSet(SetLine::List, from),
-        31 => conversion(first, from),
-        33 => dependencies(first, from),
-        39 => ScriptCommand::WithSet(SetLine::Explain(batch), from),
-        _ => ScriptCommand::Other,
+        22 => Some(ScriptCommand::WithSet(SetLine::Batch(batch), from)),
+        23 => Some(ScriptCommand::WithSet(SetLine::Check, from)),
+        24 => Some(ScriptCommand::WithSet(SetLine::List, from)),
+        31 => {
+            let room = at_most(first, 32768)?;
+            Some(ScriptCommand::WithSet(SetLine::Convert(room as u16), from))
+        }
+        33 => {
+            let places = at_most(first, 16384)?;
+            Some(ScriptCommand::WithSet(SetLine::Depends(places as u16), from))
+        }
+        39 => Some(ScriptCommand::WithSet(SetLine::Explain(batch), from)),
+        _ => None,
     }
 }

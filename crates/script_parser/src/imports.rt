@@ -4,7 +4,7 @@ ghost use Rattle.spec_replay.specs.Lines.{space};
 ghost use Rattle.spec_replay.specs.Script.{import_arguments};
 ghost use Rattle.projection_patch.specs.Meaning.{surface_of};
 ghost use Rattle.script_parser.specs.Fields.{fields_after};
-ghost use Rattle.script_parser.specs.Meaning.{set_from, script_command_of};
+ghost use Rattle.script_parser.specs.Meaning.{set_from, script_command_of, asked_of};
 ghost use Rattle.script_parser.specs.Imports.{SurfaceAfter, import_made, behind_surface, behind_room};
 
 use crate::fields::{NumberFields, SPACE};
@@ -70,41 +70,30 @@ fn read_back(
     room: u16,
     front: [u64; NumberFields::MOST],
     surface: Option<StaticSurfaceId>,
-) -> ScriptCommand
-    ensures { script_command_of line.now result ≡ behind_surface room front (surface_of surface) (fields_after space line.now end) }
+) -> Option<ScriptCommand>
+    ensures { asked_of line.now result ≡ behind_surface room front (surface_of surface) (fields_after space line.now end) }
 {
-    let Some(back) = fields::read_numbers(line, end, 4, SPACE) else {
-        return ScriptCommand::Other;
-    };
-    match fields::last_hex(line, back.end) {
-        Some(from) => import_command(room, front, surface, back.values, from),
-        None => ScriptCommand::Other,
-    }
+    let back = fields::read_numbers(line, end, 4, SPACE)?;
+    let from = fields::last_hex(line, back.end)?;
+    Some(import_command(room, front, surface, back.values, from))
 }
 
 // The fields behind the room, which ends at index end.
-fn read_front(line: &[u8], end: usize, room: u16) -> ScriptCommand
-    ensures { script_command_of line.now result ≡ behind_room room (fields_after space line.now end) }
+fn read_front(line: &[u8], end: usize, room: u16) -> Option<ScriptCommand>
+    ensures { asked_of line.now result ≡ behind_room room (fields_after space line.now end) }
 {
-    let Some(front) = fields::read_numbers(line, end, 4, SPACE) else {
-        return ScriptCommand::Other;
-    };
-    match surface_after(line, front.end) {
-        Some((surface, to)) => read_back(line, to, room, front.values, surface),
-        None => ScriptCommand::Other,
-    }
+    let front = fields::read_numbers(line, end, 4, SPACE)?;
+    let (surface, to) = surface_after(line, front.end)?;
+    read_back(line, to, room, front.values, surface)
 }
 
 // Reads the fields behind the word, which ends at index end. No more room is lent than a set may have bytes.
-pub(crate) fn read_import(line: &[u8], end: usize) -> ScriptCommand
-    ensures { script_command_of line.now result ≡ import_arguments (fields_after space line.now end) }
+pub(crate) fn read_import(line: &[u8], end: usize) -> Option<ScriptCommand>
+    ensures { asked_of line.now result ≡ import_arguments (fields_after space line.now end) }
 {
-    let Some((room, to)) = fields::number_after(line, end, SPACE) else {
-        return ScriptCommand::Other;
-    };
-    if room <= 32768 {
-        read_front(line, to, room as u16)
-    } else {
-        ScriptCommand::Other
+    let (room, to) = fields::number_after(line, end, SPACE)?;
+    if 32768 < room {
+        return None;
     }
+    read_front(line, to, room as u16)
 }

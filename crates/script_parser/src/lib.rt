@@ -15,7 +15,7 @@ ghost use Rattle.spec_replay.specs.Script.{fields_command, command};
 ghost use Rattle.bytes_hex.specs.Decoding.{decoding, decoded_into};
 ghost use Rattle.script_parser.specs.Fields.{fields_after};
 ghost use Rattle.script_parser.specs.Forms.{last_arguments, form_arguments, form_count, form_at};
-ghost use Rattle.script_parser.specs.Meaning.{script_command_of};
+ghost use Rattle.script_parser.specs.Meaning.{script_command_of, asked_of};
 
 use bytes_hex::HexRefusal;
 use fields::NumberFields;
@@ -130,49 +130,41 @@ fn last_fields(
     form: usize,
     values: [u64; NumberFields::MOST],
     end: usize,
-) -> ScriptCommand
+) -> Option<ScriptCommand>
     requires { form < form_count }
-    ensures { script_command_of line.now result ≡ last_arguments (form_at form) values (fields_after space line.now end) }
+    ensures { asked_of line.now result ≡ last_arguments (form_at form) values (fields_after space line.now end) }
 {
     if forms::has_set(form) {
-        return match fields::last_hex(line, end) {
-            Some(from) => forms::set_command(form, values, from),
-            None => ScriptCommand::Other,
-        };
+        let from = fields::last_hex(line, end)?;
+        return forms::set_command(form, values, from);
     }
     if end < line.len() {
-        return ScriptCommand::Other;
+        return None;
     }
     forms::command_of(form, values)
 }
 
 // The command of a form with so many fields, whose words end at index end.
-fn counted_fields(line: &[u8], form: usize, end: usize) -> ScriptCommand
+fn counted_fields(line: &[u8], form: usize, end: usize) -> Option<ScriptCommand>
     requires { form < form_count }
-    ensures { script_command_of line.now result ≡ form_arguments (form_at form) (fields_after space line.now end) }
+    ensures { asked_of line.now result ≡ form_arguments (form_at form) (fields_after space line.now end) }
 {
     let count = forms::number_count(form);
-    match fields::read_numbers(line, end, count, fields::SPACE) {
-        Some(numbers) => last_fields(line, form, numbers.values, numbers.end),
-        None => ScriptCommand::Other,
-    }
+    let numbers = fields::read_numbers(line, end, count, fields::SPACE)?;
+    last_fields(line, form, numbers.values, numbers.end)
 }
 
 // A line that is neither too long nor a remark.
-fn parse_fields(line: &[u8]) -> ScriptCommand
-    ensures { script_command_of line.now result ≡ fields_command (split space line.now) }
+fn parse_fields(line: &[u8]) -> Option<ScriptCommand>
+    ensures { asked_of line.now result ≡ fields_command (split space line.now) }
 {
     let found = words::find_form(line);
-    if found.form == FormAt::GROUP {
-        return ScriptCommand::Group(found.end);
+    match found.form {
+        FormAt::GROUP => Some(ScriptCommand::Group(found.end)),
+        FormAt::PAGE => Some(ScriptCommand::Page(found.end)),
+        FormAt::IMPORT => imports::read_import(line, found.end),
+        _ => counted_fields(line, found.form, found.end),
     }
-    if found.form == FormAt::PAGE {
-        return ScriptCommand::Page(found.end);
-    }
-    if found.form == FormAt::IMPORT {
-        return imports::read_import(line, found.end);
-    }
-    counted_fields(line, found.form, found.end)
 }
 
 // Reads a line without its LF.
@@ -188,7 +180,7 @@ pub fn parse_line(line: &[u8]) -> ScriptCommand
     if line[0] == b'#' {
         return ScriptCommand::Nothing;
     }
-    parse_fields(line)
+    parse_fields(line).unwrap_or(ScriptCommand::Other)
 }
 
 // Decodes the hex that starts at index from and reaches to the end of the line.

@@ -1,9 +1,11 @@
 -- `script_parser::counted_fields` meets its contract: the numbers of the form, and what stands behind them.
 use Prim.Native.Nat.{ℕ}
-use Rattle.std.specs.Prelude.{Option}
+use Rattle.std.specs.Prelude.{Option, None}
 use mathlib.Core.Path.{◌≡◌, sym, ap, ◌∙◌}
 use Rattle.spec_replay.specs.Lines.{space}
 use Rattle.script_parser.specs.Fields.{fields_after, numbers, filled, numbers_then}
+use borrow.Author.Rules.{rules}
+use Rattle.script_parser.specs.Meaning.{asked_of}
 use Rattle.script_parser.specs.Forms.{last_arguments, form_arguments, form_at}
 use Rattle.script_parser.specs.declared.fields.NumberFields.{NumberFields}
 use Rattle.script_parser.proofs.counted_fields.Goals as goal
@@ -17,8 +19,10 @@ by-numbers c r is =
     ∙ c.read_numbers.ensures (last_arguments form)
     ∙ ap (λ x. numbers_then space c.args.line.now x (last_arguments form)) is
 
-pub returns-in-Some : goal.returns-in-Some
-returns-in-Some c = c.last_fields.ensures ∙ sym (by-numbers (goal.at.returns-in-Some c).After-read_numbers _ c.in-Some.is)
+pub returns-in_err-numbers : goal.returns-in_err-numbers
+returns-in_err-numbers c =
+    let gone : c.from_residual.result ≡ None = search rules in
+    ap (asked_of c.args.line.now) gone ∙ sym (by-numbers (goal.at.returns-in_err-numbers c).After-read_numbers _ c.in_err-numbers.was)
 
-pub returns-in-None : goal.returns-in-None
-returns-in-None c = sym (by-numbers (goal.at.returns-in-None c).After-read_numbers _ c.in-None.is)
+pub returns : goal.returns
+returns c = c.last_fields.ensures ∙ sym (by-numbers (goal.at.returns c).After-read_numbers _ c.in_ok-numbers.was)

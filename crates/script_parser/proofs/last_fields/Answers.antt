@@ -3,11 +3,12 @@ use mathlib.Core.Path.{◌≡◌, sym, ap, ◌∙◌}
 use mathlib.Core.Bool.{Bool, true, false}
 use mathlib.Core.List.{List, []}
 use Prim.Native.Nat.{ℕ}
-use Rattle.std.specs.Prelude.{if◌then◌else◌, Option}
+use Rattle.std.specs.Prelude.{if◌then◌else◌, Option, None}
 use Rattle.spec_replay.specs.Lines.{space}
 use Rattle.spec_replay.specs.Script.{end, hex}
 use Rattle.script_parser.specs.Fields.{fields_after, hex_then}
 use Rattle.script_parser.specs.FieldsLaws.{fields_ended, fields_not_ended}
+use Rattle.script_parser.specs.Meaning.{asked_of}
 use Rattle.script_parser.specs.Forms.{Form, last_arguments, form_at}
 use borrow.Author.Rules.{rules}
 use Rattle.script_parser.proofs.last_fields.Goals as goal
@@ -22,16 +23,18 @@ pub set_command-requires : goal.set_command-requires
 set_command-requires c =
     (c.requires, sym c.has_set.ensures ∙ c.if-has_set.true)
 
-pub returns-in-Some : goal.returns-in-Some
-returns-in-Some c =
+pub returns-in_err-from : goal.returns-in_err-from
+returns-in_err-from c =
+    let gone : c.from_residual.result ≡ None = search rules in
+    ap (asked_of c.args.line.now) gone
+    ∙ sym (with_set (form_at c.args.form) c.args.values (fields_after space c.args.line.now c.args.end) (sym c.has_set.ensures ∙ c.if-has_set.true)
+    ∙ c.last_hex.ensures _ ∙ ap (λ (h : Option ℕ). hex_then c.args.line.now h ((form_at c.args.form).makes c.args.values)) c.in_err-from.was)
+
+pub returns-then-has_set : goal.returns-then-has_set
+returns-then-has_set c =
     c.set_command.ensures c.args.line.now
     ∙ sym (with_set (form_at c.args.form) c.args.values (fields_after space c.args.line.now c.args.end) (sym c.has_set.ensures ∙ c.if-has_set.true)
-    ∙ c.last_hex.ensures _ ∙ ap (λ (h : Option ℕ). hex_then c.args.line.now h ((form_at c.args.form).makes c.args.values)) c.in-Some.is)
-
-pub returns-in-None : goal.returns-in-None
-returns-in-None c =
-    sym (with_set (form_at c.args.form) c.args.values (fields_after space c.args.line.now c.args.end) (sym c.has_set.ensures ∙ c.if-has_set.true)
-    ∙ c.last_hex.ensures _ ∙ ap (λ (h : Option ℕ). hex_then c.args.line.now h ((form_at c.args.form).makes c.args.values)) c.in-None.is)
+    ∙ c.last_hex.ensures _ ∙ ap (λ (h : Option ℕ). hex_then c.args.line.now h ((form_at c.args.form).makes c.args.values)) c.in_ok-from.was)
 
 pub returns-then-end-line : goal.returns-then-end-line
 returns-then-end-line c =

@@ -1,5 +1,12 @@
 -- `script_parser::parse_line` meets its contract: a line that is too long, an empty one, a comment, and fields.
-use mathlib.Core.Path.{sym, ◌∙◌}
+use Prim.Native.Nat.{ℕ}
+use Rattle.std.specs.Prelude.{Option, Some, None}
+use Rattle.std.specs.Option.{unwrap_or}
+use mathlib.Core.List.{List}
+use mathlib.Core.Path.{◌≡◌, refl, sym, ap, ◌∙◌}
+use Rattle.script_parser.specs.Meaning.{script_command_of, asked_of}
+use Rattle.script_parser.specs.declared.ScriptCommand.{ScriptCommand}
+use Rattle.script_parser.specs.declared.ScriptCommand.TheVariants.{Other}
 use native.Mathlib.Omega.{arith}
 use borrow.Author.Rules.{rules}
 use Rattle.script_parser.proofs.Whole.{line_too_long, empty_line, comment, by_fields}
@@ -15,7 +22,14 @@ pub returns-then-line-eq35 : goal.returns-then-line-eq35
 returns-then-line-eq35 c =
     sym (comment c.args.line.now (omega arith) (search rules) c.if-line-eq35.true)
 
+-- a command, or any other line
+commanded : (line : List ℕ) (o : Option ScriptCommand) → script_command_of line (unwrap_or o Other) ≡ asked_of line o
+commanded line (Some k) = refl
+commanded line None = refl
+
 pub returns : goal.returns
 returns c =
-    c.parse_fields.ensures
+    ap (script_command_of c.args.line.now) c.unwrap_or.ensures
+    ∙ commanded c.args.line.now c.parse_fields.result
+    ∙ c.parse_fields.ensures
     ∙ sym (by_fields c.args.line.now (omega arith) (search rules) c.if-line-eq35.false)

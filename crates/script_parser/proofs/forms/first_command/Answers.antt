@@ -4,7 +4,12 @@ use mathlib.Core.Path.{◌≡◌, refl, sym, ap, ◌∙◌}
 use mathlib.Core.Bool.{true, false≢true}
 use mathlib.Core.List.{[]}
 use borrow.Author.Tests.{le-ltb, ne_eqb}
-use Rattle.script_parser.specs.Forms.{first_base, form_at}
+use Rattle.std.specs.Prelude.{None}
+use native.Mathlib.Omega.{arith}
+use Rattle.spec_replay.specs.Script.{Command, binding, edition, print, bytes_lent, given}
+use Rattle.script_parser.specs.FormsLaws.{fits_bound, exceeds_bound}
+use Rattle.script_parser.specs.Meaning.{asked_of, edition_read}
+use Rattle.script_parser.specs.Forms.{first_base, form_at, number_in}
 use borrow.Author.Rules.{rules}
 use Rattle.script_parser.proofs.forms.first_command.Goals as goal
 use Rattle.script_parser.proofs.forms.first_command.Goals.{In_default, Start}
@@ -23,9 +28,24 @@ pub returns-in-17 : goal.returns-in-17
 unfolding form_at
 returns-in-17 c = λ line. by_form (goal.at.returns-in-17 c).Start 17 c.in-17.is
 
-pub returns-in-18 : goal.returns-in-18
+-- the pair of a node and a slot
+abbrev bound_to : ℕ → ℕ → Command
+bound_to node slot = binding (record { node = node; slot = slot })
+
+pub returns-in_ok-bound-in-18 : goal.returns-in_ok-bound-in-18
 unfolding form_at
-returns-in-18 c = λ line. c.binding.ensures line ∙ by_form (goal.at.returns-in-18 c).Start 18 c.in-18.is
+returns-in_ok-bound-in-18 c =
+    λ line. ap (bound_to (number_in c.args.values 0)) c.in_ok-bound-in-18.ensures.0
+    ∙ fits_bound 4294967295 (number_in c.args.values 1) (bound_to (number_in c.args.values 0)) (omega (arith, c.in_ok-bound-in-18.ensures))
+    ∙ by_form (goal.at.returns-in_ok-bound-in-18 c).Start 18 c.in-18.is
+
+pub returns-in_err-bound-in-18 : goal.returns-in_err-bound-in-18
+unfolding form_at
+returns-in_err-bound-in-18 c =
+    let gone : c.from_residual.result ≡ None = search rules in
+    λ line. ap (asked_of line) gone
+    ∙ exceeds_bound 4294967295 (number_in c.args.values 1) (bound_to (number_in c.args.values 0)) c.in_err-bound-in-18.ensures
+    ∙ by_form (goal.at.returns-in_err-bound-in-18 c).Start 18 c.in-18.is
 
 pub returns-in-19 : goal.returns-in-19
 unfolding form_at
@@ -51,13 +71,34 @@ pub returns-in-29 : goal.returns-in-29
 unfolding form_at
 returns-in-29 c = λ line. by_form (goal.at.returns-in-29 c).Start 29 c.in-29.is
 
-pub returns-in-30 : goal.returns-in-30
-unfolding form_at
-returns-in-30 c = λ line. c.edition.ensures line ∙ by_form (goal.at.returns-in-30 c).Start 30 c.in-30.is
+pub returns-in_ok-edition-in-30 : goal.returns-in_ok-edition-in-30
+unfolding form_at given
+returns-in_ok-edition-in-30 c =
+    λ line. ap (λ o. given o edition) (sym (ap edition_read c.in_ok-edition-in-30.was) ∙ c.numbered_edition.ensures)
+    ∙ by_form (goal.at.returns-in_ok-edition-in-30 c).Start 30 c.in-30.is
 
-pub returns-in-34 : goal.returns-in-34
+pub returns-in_err-edition-in-30 : goal.returns-in_err-edition-in-30
+unfolding form_at given
+returns-in_err-edition-in-30 c =
+    let gone : c.from_residual-in_err-edition-in-30.result ≡ None = search rules in
+    λ line. ap (asked_of line) gone
+    ∙ ap (λ o. given o edition) (sym (ap edition_read c.in_err-edition-in-30.was) ∙ c.numbered_edition.ensures)
+    ∙ by_form (goal.at.returns-in_err-edition-in-30 c).Start 30 c.in-30.is
+
+pub returns-in_ok-room-in-34 : goal.returns-in_ok-room-in-34
 unfolding form_at
-returns-in-34 c = λ line. c.paper.ensures line ∙ by_form (goal.at.returns-in-34 c).Start 34 c.in-34.is
+returns-in_ok-room-in-34 c =
+    λ line. ap (print (number_in c.args.values 0)) c.in_ok-room-in-34.ensures.0
+    ∙ fits_bound bytes_lent (number_in c.args.values 1) (print (number_in c.args.values 0)) (omega (arith, c.in_ok-room-in-34.ensures))
+    ∙ by_form (goal.at.returns-in_ok-room-in-34 c).Start 34 c.in-34.is
+
+pub returns-in_err-room-in-34 : goal.returns-in_err-room-in-34
+unfolding form_at
+returns-in_err-room-in-34 c =
+    let gone : c.from_residual-in_err-room-in-34.result ≡ None = search rules in
+    λ line. ap (asked_of line) gone
+    ∙ exceeds_bound bytes_lent (number_in c.args.values 1) (print (number_in c.args.values 0)) c.in_err-room-in-34.ensures
+    ∙ by_form (goal.at.returns-in_err-room-in-34 c).Start 34 c.in-34.is
 
 pub returns-in-36 : goal.returns-in-36
 unfolding form_at

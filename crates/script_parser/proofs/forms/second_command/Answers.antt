@@ -4,7 +4,12 @@ use mathlib.Core.Path.{◌≡◌, sym, ap, ◌∙◌}
 use mathlib.Core.List.{[]}
 use borrow.Author.Tests.{lt-ltb, ne_eqb}
 use Rattle.session_lifecycle.specs.Meaning.{stimulus_of, command_of}
-use Rattle.script_parser.specs.Forms.{first_base, form_at}
+use Rattle.std.specs.Prelude.{None}
+use native.Mathlib.Omega.{arith}
+use Rattle.spec_replay.specs.Script.{value_binding, mark_binding}
+use Rattle.script_parser.specs.FormsLaws.{fits_bound, exceeds_bound}
+use Rattle.script_parser.specs.Meaning.{asked_of}
+use Rattle.script_parser.specs.Forms.{first_base, form_at, number_in}
 use borrow.Author.Rules.{rules}
 use Rattle.script_parser.proofs.forms.second_command.Goals as goal
 use Rattle.script_parser.proofs.forms.second_command.Goals.{Start}
@@ -32,9 +37,20 @@ pub returns-in-4 : goal.returns-in-4
 unfolding form_at stimulus_of command_of
 returns-in-4 c = λ line. by_form (goal.at.returns-in-4 c).Start 4 c.in-4.is
 
-pub returns-in-6 : goal.returns-in-6
+pub returns-in_ok-slot-in-6 : goal.returns-in_ok-slot-in-6
 unfolding form_at
-returns-in-6 c = λ line. c.value_binding.ensures line ∙ by_form (goal.at.returns-in-6 c).Start 6 c.in-6.is
+returns-in_ok-slot-in-6 c =
+    λ line. ap (value_binding (number_in c.args.values 0)) c.in_ok-slot-in-6.ensures.0
+    ∙ fits_bound 4294967295 (number_in c.args.values 1) (value_binding (number_in c.args.values 0)) (omega (arith, c.in_ok-slot-in-6.ensures))
+    ∙ by_form (goal.at.returns-in_ok-slot-in-6 c).Start 6 c.in-6.is
+
+pub returns-in_err-slot-in-6 : goal.returns-in_err-slot-in-6
+unfolding form_at
+returns-in_err-slot-in-6 c =
+    let gone : c.from_residual.result ≡ None = search rules in
+    λ line. ap (asked_of line) gone
+    ∙ exceeds_bound 4294967295 (number_in c.args.values 1) (value_binding (number_in c.args.values 0)) c.in_err-slot-in-6.ensures
+    ∙ by_form (goal.at.returns-in_err-slot-in-6 c).Start 6 c.in-6.is
 
 pub returns-in-7 : goal.returns-in-7
 unfolding form_at
@@ -44,9 +60,20 @@ pub returns-in-8 : goal.returns-in-8
 unfolding form_at
 returns-in-8 c = λ line. by_form (goal.at.returns-in-8 c).Start 8 c.in-8.is
 
-pub returns-in-10 : goal.returns-in-10
+pub returns-in_ok-marked-in-10 : goal.returns-in_ok-marked-in-10
 unfolding form_at
-returns-in-10 c = λ line. c.mark_binding.ensures line ∙ by_form (goal.at.returns-in-10 c).Start 10 c.in-10.is
+returns-in_ok-marked-in-10 c =
+    λ line. ap (mark_binding (number_in c.args.values 0)) c.in_ok-marked-in-10.ensures.0
+    ∙ fits_bound 4294967295 (number_in c.args.values 1) (mark_binding (number_in c.args.values 0)) (omega (arith, c.in_ok-marked-in-10.ensures))
+    ∙ by_form (goal.at.returns-in_ok-marked-in-10 c).Start 10 c.in-10.is
+
+pub returns-in_err-marked-in-10 : goal.returns-in_err-marked-in-10
+unfolding form_at
+returns-in_err-marked-in-10 c =
+    let gone : c.from_residual-in_err-marked-in-10.result ≡ None = search rules in
+    λ line. ap (asked_of line) gone
+    ∙ exceeds_bound 4294967295 (number_in c.args.values 1) (mark_binding (number_in c.args.values 0)) c.in_err-marked-in-10.ensures
+    ∙ by_form (goal.at.returns-in_err-marked-in-10 c).Start 10 c.in-10.is
 
 pub returns-in-11 : goal.returns-in-11
 unfolding form_at

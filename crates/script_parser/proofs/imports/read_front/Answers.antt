@@ -6,6 +6,8 @@ use mathlib.Core.Path.{◌≡◌, sym, ap, ◌∙◌}
 use Rattle.spec_replay.specs.Lines.{space}
 use Rattle.spec_replay.specs.Script.{Arguments, optional}
 use Rattle.script_parser.specs.Fields.{fields_after, numbers_then}
+use borrow.Author.Rules.{rules}
+use Rattle.script_parser.specs.Meaning.{asked_of}
 use Rattle.script_parser.specs.Imports.{surface_then, behind_surface, behind_room}
 use Rattle.script_parser.specs.declared.fields.NumberFields.{NumberFields}
 use Rattle.script_parser.proofs.imports.read_front.Goals as goal
@@ -17,16 +19,20 @@ by-numbers c r is =
     c.read_numbers.ensures (λ ns. optional (λ s. behind_surface c.args.room ns s))
     ∙ ap (λ x. numbers_then space c.args.line.now x (λ ns. optional (λ s. behind_surface c.args.room ns s))) is
 
-pub returns-in_default : goal.returns-in_default
-returns-in_default c = sym (by-numbers (goal.at.returns-in_default c).After-read_numbers _ c.in_default.is)
+pub returns-in_err-front : goal.returns-in_err-front
+returns-in_err-front c =
+    let gone : c.from_residual.result ≡ code.None = search rules in
+    ap (asked_of c.args.line.now) gone ∙ sym (by-numbers (goal.at.returns-in_err-front c).After-read_numbers _ c.in_err-front.was)
 
-pub returns-in-Some-surface_after : goal.returns-in-Some-surface_after
-returns-in-Some-surface_after c =
-    let behind : Option ℕ → Arguments = λ s. behind_surface c.args.room c.in-Some.front.values s in
+pub returns-in_err-surface : goal.returns-in_err-surface
+returns-in_err-surface c =
+    let gone : c.from_residual-in_err-surface.result ≡ code.None = search rules in
+    let behind : Option ℕ → Arguments = λ s. behind_surface c.args.room c.in_ok-front.front.values s in
+    ap (asked_of c.args.line.now) gone
+    ∙ sym (by-numbers (goal.at.returns-in_err-surface c).After-read_numbers _ c.in_ok-front.was ∙ c.surface_after.ensures behind ∙ ap (λ x. surface_then c.args.line.now x behind) c.in_err-surface.was)
+
+pub returns : goal.returns
+returns c =
+    let behind : Option ℕ → Arguments = λ s. behind_surface c.args.room c.in_ok-front.front.values s in
     c.read_back.ensures
-    ∙ sym (by-numbers (goal.at.returns-in-Some-surface_after c).After-read_numbers _ c.in-Some.is ∙ c.surface_after.ensures behind ∙ ap (λ x. surface_then c.args.line.now x behind) c.in-Some-surface_after.is)
-
-pub returns-in-None : goal.returns-in-None
-returns-in-None c =
-    let behind : Option ℕ → Arguments = λ s. behind_surface c.args.room c.in-Some.front.values s in
-    sym (by-numbers (goal.at.returns-in-None c).After-read_numbers _ c.in-Some.is ∙ c.surface_after.ensures behind ∙ ap (λ x. surface_then c.args.line.now x behind) c.in-None.is)
+    ∙ sym (by-numbers (goal.at.returns c).After-read_numbers _ c.in_ok-front.was ∙ c.surface_after.ensures behind ∙ ap (λ x. surface_then c.args.line.now x behind) c.in_ok-surface.was)
