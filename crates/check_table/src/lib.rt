@@ -75,16 +75,13 @@ fn finding_place(records: &[u64], finding: Finding) -> Result<usize, usize>
     Err(place)
 }
 
-// Copies each number of s to the position three above it, the last first. The last three are lost, and the first three stay.
+// Copies each number of s to the position three above it. The last three are lost, and the first three stay.
 fn shift_up(s: &mut [u64])
     requires { 3 ≤ length s.old }
     ensures { s.new ≡ take 3 s.old ++ take (length s.old - 3) s.old }
 {
-    let mut i = s.len();
-    while 3 < i {
-        i -= 1;
-        s[i] = s[i - 3];
-    }
+    let end = s.len() - 3;
+    s.copy_within(..end, 3);
 }
 
 // Inserts a finding before the numbers of s, whose last three are lost.
