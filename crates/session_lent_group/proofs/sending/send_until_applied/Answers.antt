@@ -50,8 +50,8 @@ pub loop-place-init : goal.loop-place-init
 loop-place-init c =
     unchanged_start (anchors_with c.args.nodes.now c.args.pairs.now c.args.collections.now) c.args.head.now c.args.bindings.now c.args.availability.now c.args.entries.now c.args.sets.now c.args.left _ c.requires.0
 
-pub bounds-batches-place : goal.bounds-batches-place
-bounds-batches-place c = search (rules, c.loop-place.invariant.fits.few)
+pub bounds-left-place : goal.bounds-left-place
+bounds-left-place c = search (rules, c.loop-place.invariant.fits.few)
 
 pub overflow_add-end : goal.overflow_add-end
 overflow_add-end c = omega (arith, fits (goal.at.overflow_add-end c).In-loop-place)
