@@ -32,10 +32,7 @@ pub fn find_entry(
 pub fn has_neighbour(before: Option<CollectionKey>) -> bool
     ensures { result ≡ is_placed (before_of before) }
 {
-    match before {
-        None => false,
-        Some(_) => true,
-    }
+    before.is_some()
 }
 
 pub fn neighbour_key(before: Option<CollectionKey>) -> u64
@@ -47,8 +44,8 @@ pub fn neighbour_key(before: Option<CollectionKey>) -> u64
     }
 }
 
-// Where an entry goes: before its neighbour, or last of its collection. The neighbour is a test and a number: for an optional key the operation that
-// holds it would be copied, by loads wider than the stores before them.
+// Where an entry goes: before its neighbour, or last of its collection. The neighbour is a test and a number, as that is faster: for an optional key
+// the operation that holds it would be copied, by loads wider than the stores before them.
 pub fn seek_place(
     table: &[u8],
     count: usize,

@@ -42,8 +42,9 @@ fn write_runs(plan: &[u8], count: usize, to: &mut [u8])
     ensures long { length to.new ≡ length to.old }
 {
     bytes_records::moves::clear(to);
-    let mut rows: usize = 0;
-    let mut i: usize = 0;
+    let mut rows = 0;
+    // each turn goes past a whole run, of another length each time
+    let mut i = 0;
     while i < count {
         let collection = collection_at(plan, i);
         let end = run_end(plan, i + 1, count, collection);

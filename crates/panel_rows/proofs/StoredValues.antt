@@ -12,7 +12,7 @@ use Rattle.spec_lists.proofs.BytesLaws.{length_little_endian}
 use Rattle.spec_patch.specs.Sizes.{text_bytes}
 use Rattle.spec_patch.specs.Edition.{v2}
 use Rattle.spec_patch.specs.Patch.{Quad, N, F, T, S, Value, quad, signed, text, unsigned, score}
-use Rattle.spec_patch.specs.Encode.{u32, kind_of, value_body, encode_text, encode_value}
+use Rattle.spec_patch.specs.Encode.{u32, quad_byte, kind_of, value_body, encode_text, encode_value}
 use Rattle.spec_patch.specs.Fits.{Storable, StorableBy}
 use Rattle.spec_patch.specs.Read.{read_value_by}
 use Rattle.bytes_records.specs.Moves.{zeros, overwrite_rows}
@@ -20,13 +20,24 @@ use Rattle.bytes_records.specs.MovesLaws.{drop_zeros}
 use Rattle.projection_patch.specs.Meaning.{quad_to, quad_of, value_to, value_of}
 use Rattle.projection_patch.specs.ReadAnswers.{lent_part, value_answer}
 use Rattle.projection_patch.proofs.Texts.{lent_text}
+use Rattle.projection_patch.specs.declared.patch.ProjectionQuadState.{ProjectionQuadState}
+use Rattle.projection_patch.specs.declared.patch.ProjectionQuadState.TheVariants as states
 use Rattle.projection_patch.specs.declared.patch.ProjectionPatchValue.{ProjectionPatchValue}
 use Rattle.projection_patch.specs.declared.read_values.ProjectionPatchReadFault.{ProjectionPatchReadFault}
 use Rattle.patch_part_writer.specs.Extent.{value_text, WithinTexts}
 use Rattle.panel_rows.specs.Rows.{value_width, padded}
 use Rattle.panel_rows.specs.RowsLaws.{read_padded}
-use Rattle.panel_rows.specs.Lookup.{found_value}
+use Rattle.panel_rows.specs.Lookup.{quad_number, found_value}
 use Rattle.panel_rows.specs.declared.values.ValueLookup.{ValueLookup}
+
+-- ---- a quad state's number
+
+pub quad_number_lem : (s : ProjectionQuadState) → quad_number s ≡ quad_byte (quad_of s)
+unfolding quad_byte
+quad_number_lem states.N = refl
+quad_number_lem states.F = refl
+quad_number_lem states.T = refl
+quad_number_lem states.S = refl
 
 -- ---- a text over zeros
 

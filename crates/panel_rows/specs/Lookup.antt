@@ -5,6 +5,8 @@ use Rattle.spec_patch.specs.Sizes.{text_bytes}
 use Rattle.spec_patch.specs.Patch.{Value, quad, signed, text, unsigned, score, Availability}
 use Rattle.spec_patch.specs.Encode.{quad_byte, availability_byte}
 use Rattle.bytes_records.specs.Moves.{zeros}
+use Rattle.projection_patch.specs.declared.patch.ProjectionQuadState.{ProjectionQuadState}
+use Rattle.projection_patch.specs.declared.patch.ProjectionQuadState.TheVariants as states
 use Rattle.panel_rows.specs.declared.values.ValueLookup.{ValueLookup}
 use Rattle.panel_rows.specs.declared.values.AvailabilityLookup.{AvailabilityLookup}
 
@@ -14,6 +16,13 @@ no_value = record { found = false; mark = 0; kind = 0; quad = 0; signed = pos 0;
 -- a value of that mark whose kind is still to be set
 abbrev pub found_with : ℕ → ValueLookup
 found_with m = record { found = true; mark = m; kind = 0; quad = 0; signed = pos 0; unsigned = 0; text_len = 0; text = zeros text_bytes }
+
+-- the number of a quad state, as its canonical byte
+abbrev pub quad_number : ProjectionQuadState → ℕ
+quad_number states.N = 0
+quad_number states.F = 1
+quad_number states.T = 2
+quad_number states.S = 3
 
 abbrev pub found_quad : (m n : ℕ) → ValueLookup
 found_quad m n = record { found = true; mark = m; kind = 1; quad = n; signed = pos 0; unsigned = 0; text_len = 0; text = zeros text_bytes }

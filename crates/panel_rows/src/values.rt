@@ -12,7 +12,8 @@ use patch_part_writer::fields;
 use projection_patch::patch::{ProjectionPatchEdition, ProjectionPatchValue};
 use projection_patch::read_values;
 
-// A value with its mark, the id of the patch that last gave it, or none. The kind is that of canonical bytes: 1 quad,
+// A value with its mark, the id of the patch that last gave it, or none. These are the fields of the C interface's record, with a flag and a number
+// for the kind, and every field that a value does not have is zero there: no Option, and no enum of values. The kind is that of canonical bytes: 1 quad,
 // 2 signed, 3 text, 4 unsigned, 5 score, whose number stands in unsigned.
 #[derive(Clone, Copy)]
 pub struct ValueLookup {

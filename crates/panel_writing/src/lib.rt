@@ -141,6 +141,7 @@ fn write_rows(
         (rows_to (new_row (edition_of edition) key plan.now from.now set.now to.old) count) }
 {
     let width = key + panel_rows::VALUE_WIDTH;
+    // each turn goes past a whole run, of another length each time
     let mut i = 0;
     while i < count {
         let row = row_at(plan, key + SOURCE_WIDTH, i);

@@ -1,14 +1,15 @@
 -- `find::has_neighbour` meets its contract.
-use mathlib.Core.Path.{sym, ap}
-use borrow.Author.Rules.{rules}
+use mathlib.Core.Path.{◌≡◌, refl, ◌∙◌}
+use Rattle.std.specs.Prelude as code
 use Rattle.projection_patch.specs.Meaning.{before_of}
+use Rattle.projection_patch.specs.declared.contract_primitives.CollectionKey.{CollectionKey}
 use Rattle.panel_entries.specs.Places.{is_placed}
 use Rattle.panel_entries.proofs.find.has_neighbour.Goals as goal
 
-pub returns-in-None : goal.returns-in-None
+named : (before : code.Option CollectionKey) → code.is_some before ≡ is_placed (before_of before)
 unfolding is_placed
-returns-in-None c = sym (ap (λ b. is_placed (before_of b)) c.in-None.is)
+named code.None = refl
+named (code.Some key) = refl
 
-pub returns-in-Some : goal.returns-in-Some
-unfolding is_placed
-returns-in-Some c = sym (ap (λ b. is_placed (before_of b)) c.in-Some.is)
+pub returns : goal.returns
+returns c = c.is_some.ensures ∙ named c.args.before
