@@ -1,11 +1,11 @@
 -- The scan over the numbers of pairs says what step 7 asks of the pairs.
-use Rattle.std.specs.Prelude.{ℕ, zero, suc, ◌+◌, ◌-◌, ◌*◌, ◌/◌, ◌≤◌, ◌<◌, min, ◌≡◌, refl, ◌&&◌, ◌||◌, leb, eqb, drop, get_or, set}
+use Rattle.std.specs.Prelude.{ℕ, zero, suc, ◌+◌, ◌-◌, ◌*◌, ◌/◌, ◌≤◌, ◌<◌, min, ◌≡◌, refl, ◌&&◌, ◌||◌, leb, eqb, drop, get_or, set, true, false, Bool}
 use Rattle.std.specs.List.{list_any}
 use Rattle.std.specs.Simd.{first_chunks}
 use lib.Pointwise.{pointwise}
 use Rattle.std.proofs.Math.Path.{sym, ap}
 use Rattle.std.proofs.Math.Bool.{and-true}
-use Rattle.std.proofs.Common.{◌∙◌, ap₂, leb-true, leb-false, take-suc, take_all, take_at, length-take-le}
+use Rattle.std.proofs.Common.{◌∙◌, ap₂, leb-true, leb-false, take-suc, take_all, take_at, length-take-le, eq-eqb, ne_eqb, drop_of_length-le, drop-cons}
 use mathlib.Core.List.{List, [], ◌∷◌, ◌++◌, map, flat_map, append_assoc}
 use native.Mathlib.Omega.{arith}
 use Rattle.std.proofs.Math.ListN.{length, take, replicate}
@@ -55,6 +55,46 @@ seen_in_pairs node slot (n ∷ []) = refl
 seen_in_pairs node slot (n ∷ s ∷ ns) =
     let more : length (n ∷ s ∷ ns) / 2 ≡ suc (length ns / 2) = omega arith in
     rw more (ap₂ (λ t u. (eqb n node && t) || u) (and-true (eqb s slot)) (seen_in_pairs node slot ns))
+
+-- ---- the turns of the scans
+
+two_at : (ns : List ℕ) (at : ℕ) → at + 2 ≤ length ns → drop at ns ≡ get_or ns at 0 ∷ get_or ns (at + 1) 0 ∷ drop (at + 2) ns
+two_at ns at h =
+    let one : at + 1 ≡ suc at = omega arith in
+    let two : at + 2 ≡ suc (suc at) = omega arith in
+    rw (one, two, drop-cons ns at 0 (omega arith), drop-cons ns (suc at) 0 (omega arith))
+
+pair_seen_turn : (node slot : ℕ) (ns : List ℕ) (at : ℕ) → at + 2 ≤ length ns
+    → pair_seen node slot (drop at ns) ≡ ((eqb (get_or ns at 0) node && eqb (get_or ns (at + 1) 0) slot) || pair_seen node slot (drop (at + 2) ns))
+unfolding pair_seen
+pair_seen_turn node slot ns at h = ap (pair_seen node slot) (two_at ns at h)
+
+module _ (node slot : ℕ) (ns : List ℕ) (at : ℕ) (within : at + 2 ≤ length ns) where
+  pub pair_seen_here : (eqb (get_or ns at 0) node && eqb (get_or ns (at + 1) 0) slot) ≡ true → pair_seen node slot (drop at ns) ≡ true
+  pair_seen_here e = pair_seen_turn node slot ns at within ∙ rw e
+
+  pub pair_seen_on : (eqb (get_or ns at 0) node && eqb (get_or ns (at + 1) 0) slot) ≡ false → pair_seen node slot (drop at ns) ≡ pair_seen node slot (drop (at + 2) ns)
+  pair_seen_on e = pair_seen_turn node slot ns at within ∙ rw e
+
+-- fewer than two numbers are no pair
+pub pair_seen_end : (node slot : ℕ) (ns : List ℕ) → length ns < 2 → pair_seen node slot ns ≡ false
+unfolding pair_seen
+pair_seen_end node slot [] h = refl
+pair_seen_end node slot (n ∷ []) h = refl
+pair_seen_end node slot (n ∷ s ∷ ns) h = absurd (omega arith)
+
+any_turn : (test : ℕ → Bool) (ns : List ℕ) (at : ℕ) → at < length ns → any test (drop at ns) ≡ (test (get_or ns at 0) || any test (drop (at + 1) ns))
+any_turn test ns at h = let one : at + 1 ≡ suc at = omega arith in rw one (ap (any test) (drop-cons ns at 0 h))
+
+module _ (id : ℕ) (ns : List ℕ) (at : ℕ) (within : at < length ns) where
+  pub anchor_here : id ≡ get_or ns at 0 → any (eqb id) (drop at ns) ≡ true
+  anchor_here e = any_turn (eqb id) ns at within ∙ rw (eq-eqb id (get_or ns at 0) e)
+
+  pub anchor_on : (id ≡ get_or ns at 0 → ⊥) → any (eqb id) (drop at ns) ≡ any (eqb id) (drop (at + 1) ns)
+  anchor_on n = any_turn (eqb id) ns at within ∙ rw (ne_eqb id (get_or ns at 0) n)
+
+pub anchor_end : (id : ℕ) (ns : List ℕ) (at : ℕ) → length ns ≤ at → any (eqb id) (drop at ns) ≡ false
+anchor_end id ns at h = ap (any (eqb id)) (drop_of_length-le ns h)
 
 -- ---- an array of anchors, filled one by one
 

@@ -1,5 +1,5 @@
 -- The scan over the numbers of earlier operations says what kind 3 asks of them.
-use Rattle.std.specs.Prelude.{ℕ, zero, suc, ◌+◌, ◌/◌, ◌≤◌, ◌≡◌, refl, Bool, true, ◌&&◌, ◌||◌, ◌↔◌, length, take, drop, eqb, set}
+use Rattle.std.specs.Prelude.{Bool, drop, eqb, false, get_or, length, refl, set, suc, take, true, zero, ℕ, ◌&&◌, ◌+◌, ◌-◌, ◌/◌, ◌<◌, ◌||◌, ◌↔◌, ◌≡◌, ◌≤◌}
 use Rattle.std.specs.List.{list_any}
 use Rattle.std.specs.Simd.{first_chunks}
 use Rattle.std.proofs.Common.{sym, ap, ap₂, eq-eqb, ne_eqb, eqb-true, ◌∙◌, arith, length-append, length-take, length-drop, take_at}
@@ -11,6 +11,7 @@ use Rattle.spec_patch.specs.Patch.{Operation}
 use Rattle.spec_checks.specs.Target.{MutationTarget, mutation_target, same_target}
 use Rattle.spec_checks.proofs.RulesLaws.{same_target_true, true_same_target}
 use Rattle.std.proofs.Math.Bool.{and_comm, and_assoc}
+use Rattle.check_targets.specs.Threes.{three_at}
 use Rattle.check_targets.specs.Targets.{tells_target, equal_targets, numbers_of, target_numbers, target_seen, with_target}
 
 eqb_turned : (m n : ℕ) → eqb m n ≡ eqb n m
@@ -33,6 +34,27 @@ seen_in_threes t (k ∷ f ∷ []) = refl
 seen_in_threes t (k ∷ f ∷ s ∷ ns) =
     let more : length (k ∷ f ∷ s ∷ ns) / 3 ≡ suc (length ns / 3) = omega arith in
     rw more (ap₂ ◌||◌ (tells_equal t k f s) (seen_in_threes t ns))
+
+-- one turn of the scan
+target_seen_turn : (t : MutationTarget) (ns : List ℕ) (at : ℕ) → at + 3 ≤ length ns
+    → target_seen t (drop at ns) ≡ (equal_targets t (record { kind = get_or ns at 0; first = get_or ns (at + 1) 0; second = get_or ns (at + 2) 0 }) || target_seen t (drop (at + 3) ns))
+unfolding target_seen
+target_seen_turn t ns at h = ap (target_seen t) (three_at ns at h)
+
+module _ (t : MutationTarget) (ns : List ℕ) (at : ℕ) (within : at + 3 ≤ length ns) where
+  pub target_seen_here : equal_targets t (record { kind = get_or ns at 0; first = get_or ns (at + 1) 0; second = get_or ns (at + 2) 0 }) ≡ true → target_seen t (drop at ns) ≡ true
+  target_seen_here e = target_seen_turn t ns at within ∙ rw e
+
+  pub target_seen_on : equal_targets t (record { kind = get_or ns at 0; first = get_or ns (at + 1) 0; second = get_or ns (at + 2) 0 }) ≡ false → target_seen t (drop at ns) ≡ target_seen t (drop (at + 3) ns)
+  target_seen_on e = target_seen_turn t ns at within ∙ rw e
+
+-- fewer than three numbers are no target
+pub target_seen_end : (t : MutationTarget) (ns : List ℕ) → length ns < 3 → target_seen t ns ≡ false
+unfolding target_seen
+target_seen_end t [] h = refl
+target_seen_end t (k ∷ []) h = refl
+target_seen_end t (k ∷ f ∷ []) h = refl
+target_seen_end t (k ∷ f ∷ s ∷ ns) h = absurd (omega arith)
 
 seen_each : (o : Operation) (os : List Operation) → target_seen (mutation_target o) (flat_map target_numbers os) ≡ any (same_target o) os
 unfolding target_seen target_numbers flat_map same_target equal_targets
@@ -81,3 +103,13 @@ with_target_length used t ns h = omega (arith, length-append (take used ns) (num
 pub targets_snoc : (done : List Operation) (o : Operation) → flat_map target_numbers (done ++ (o ∷ [])) ≡ flat_map target_numbers done ++ target_numbers o
 unfolding flat_map target_numbers
 targets_snoc done o = flat_map_append target_numbers done (o ∷ [])
+
+-- ---- tests in another order
+
+pub and_false : (a : Bool) → (a && false) ≡ false
+and_false true = refl
+and_false false = refl
+
+pub and_true : (a : Bool) → (a && true) ≡ a
+and_true true = refl
+and_true false = refl
