@@ -22,6 +22,7 @@ use Rattle.panel_changes.specs.PlanMemoryLaws.{no_plan_clear}
 use Rattle.session_lent.specs.Batches.{NextIn, LentStep, ShapedCall}
 use Rattle.session_lent.specs.Halves.{Anchors, Half, half_with, HeldIn, RoomIn}
 use Rattle.session_lent.specs.HalvesLaws.{held_room, same_half}
+use Rattle.session_lent_group.specs.declared.places.LentHalf.{LentHalf}
 use Rattle.session_lent_group.specs.declared.places.LentHalf.TheVariants.{Own, First, Second}
 use Rattle.session_lent_group.specs.declared.places.GroupLeft.{GroupLeft}
 use Rattle.session_lent_group.specs.declared.places.RefusedBatch.{RefusedBatch}

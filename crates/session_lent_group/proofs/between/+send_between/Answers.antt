@@ -13,20 +13,20 @@ use Rattle.session_lent_group.specs.SendingsLaws.{SentAs, RanBetween, between_en
 use Rattle.session_lent_group.proofs.between.+send_between.Goals as goal
 use Rattle.session_lent_group.proofs.between.+send_between.Goals.{After-send_until_applied}
 
-abbrev anchors : After-send_until_applied → Anchors
+abbrev anchors : {t : ℕ} → After-send_until_applied t → Anchors
 anchors k = anchors_with k.args.nodes.now k.args.pairs.now k.args.collections.now
 
-abbrev from : After-send_until_applied → Half
+abbrev from : {t : ℕ} → After-send_until_applied t → Half
 from k = half_with k.args.head.now k.args.bindings.now k.args.availability.now k.args.entries.now k.args.lengths.now
 
-abbrev to : After-send_until_applied → Half
+abbrev to : {t : ℕ} → After-send_until_applied t → Half
 to k = half_with k.args.to_head.now k.args.to_bindings.now k.args.to_availability.now k.args.to_entries.now k.args.to_lengths.now
 
 -- the other half after what was sent to it
-abbrev after : After-send_until_applied → Half
+abbrev after : {t : ℕ} → After-send_until_applied t → Half
 after k = half_with k.send_until_applied.new.to_head k.send_until_applied.new.to_bindings k.send_until_applied.new.to_availability k.send_until_applied.new.to_entries k.send_until_applied.new.to_lengths
 
-sent : (k : After-send_until_applied) (x : Result (Option (ℕ × ℕ)) RefusedBatch) → k.send_until_applied.result ≡ x → SentAs (anchors k) k.args.head.now k.args.bindings.now k.args.availability.now k.args.entries.now k.args.sets.now k.args.left (to k) (after k) x
+sent : {t : ℕ} (k : After-send_until_applied t) (x : Result (Option (ℕ × ℕ)) RefusedBatch) → k.send_until_applied.result ≡ x → SentAs (anchors k) k.args.head.now k.args.bindings.now k.args.availability.now k.args.entries.now k.args.sets.now k.args.left (to k) (after k) x
 sent k x is =
     subst (λ (y : Result (Option (ℕ × ℕ)) RefusedBatch). SentAs (anchors k) k.args.head.now k.args.bindings.now k.args.availability.now k.args.entries.now k.args.sets.now k.args.left (to k) (after k) y) is
     (k.send_until_applied.ensures.holding, k.send_until_applied.ensures.whatever)
@@ -56,7 +56,7 @@ returns-in_default t c =
 pub returns-in_err-half : goal.returns-in_err-half
 returns-in_err-half t c =
     let k = (goal.at.returns-in_err-half t c).After-send_until_applied in
-    let p = err_from_is_err_and c.from_residual.result c.from_residual.ensures.1 in
+    let p = err_from_is_err_and c.from_residual-in_err-half.result c.from_residual-in_err-half.ensures.1 in
     -- the call lent the halves exchanged
     let to'' = half_with c.send_between.new.head c.send_between.new.bindings c.send_between.new.availability c.send_between.new.entries c.send_between.new.lengths in
     let from'' = half_with c.send_between.new.to_head c.send_between.new.to_bindings c.send_between.new.to_availability c.send_between.new.to_entries c.send_between.new.to_lengths in

@@ -44,8 +44,8 @@ heads c = own_heads (anchorsIn c) (ownIn c) (firstIn c) c.requires
 
 pub send_all-run-requires : goal.send_all-run-requires
 send_all-run-requires c =
-    let is = sym c.is_group.ensures ∙ c.if-is_group.false in
-    let work = sym c.work_shaped.ensures ∙ c.if-work_shaped.false in
+    let is = sym c.is_group.ensures ∙ c.if-not-is_group.false in
+    let work = sym c.work_shaped.ensures ∙ c.if-not-work_shaped.false in
     let few = (group_named c.args.count c.args.batches (length c.args.sets.now) is).0 in
     let long = places (goal.at.send_all-run-requires c).Start in
     let named : groupIn (goal.at.send_all-run-requires c).Start = omega (arith, few, long) in
@@ -55,13 +55,13 @@ pub concluded-requires : goal.concluded-requires
 concluded-requires c =
     let own-long = (heads (goal.at.concluded-requires c).Start).0 in
     let first_long = (heads (goal.at.concluded-requires c).Start).1 in
-    let second-long = work_head (secondIn (goal.at.concluded-requires c).Start) (sym c.work_shaped.ensures ∙ c.if-work_shaped.false) in
+    let second-long = work_head (secondIn (goal.at.concluded-requires c).Start) (sym c.work_shaped.ensures ∙ c.if-not-work_shaped.false) in
     (own-long, (c.send_all-run.auto.first_head ∙ first_long, c.send_all-run.auto.second_head ∙ second-long))
 
 pub returns : goal.returns
 returns c =
-    let is = sym c.is_group.ensures ∙ c.if-is_group.false in
-    let work = sym c.work_shaped.ensures ∙ c.if-work_shaped.false in
+    let is = sym c.is_group.ensures ∙ c.if-not-is_group.false in
+    let work = sym c.work_shaped.ensures ∙ c.if-not-work_shaped.false in
     let first' = half_with c.send_all-run.new.first_head c.send_all-run.new.first_bindings c.send_all-run.new.first_availability c.send_all-run.new.first_entries c.send_all-run.new.first_lengths in
     let second' = half_with c.send_all-run.new.second_head c.send_all-run.new.second_bindings c.send_all-run.new.second_availability c.send_all-run.new.second_entries c.send_all-run.new.second_lengths in
     let ran = subst (λ (x : GroupLeft). RanFrom (anchorsIn (goal.at.returns c).Start) c.args.head.now c.args.bindings.now c.args.availability.now c.args.entries.now (firstIn (goal.at.returns c).Start) (secondIn (goal.at.returns c).Start) c.args.sets.now x first' second' c.send_all-run.result) c.first_left.ensures (c.send_all-run.ensures.holding, c.send_all-run.ensures.whatever) in
@@ -71,20 +71,20 @@ returns c =
       refused = λ no. absurd (false≢true (sym no ∙ shaped));
     }
 
-pub returns-then-is_group : goal.returns-then-is_group
-returns-then-is_group c =
-    let is = sym c.is_group.ensures ∙ c.if-is_group.true in
-    let work = sym c.work_shaped.ensures ∙ c.if-work_shaped.false in
-    let shaped = and_both (own_shaped (anchorsIn (goal.at.returns-then-is_group c).Start) (ownIn (goal.at.returns-then-is_group c).Start) (firstIn (goal.at.returns-then-is_group c).Start)) (work_shaped (secondIn (goal.at.returns-then-is_group c).Start)) c.requires work in
+pub returns-then-not-is_group : goal.returns-then-not-is_group
+returns-then-not-is_group c =
+    let is = sym c.is_group.ensures ∙ c.if-not-is_group.true in
+    let work = sym c.work_shaped.ensures ∙ c.if-not-work_shaped.false in
+    let shaped = and_both (own_shaped (anchorsIn (goal.at.returns-then-not-is_group c).Start) (ownIn (goal.at.returns-then-not-is_group c).Start) (firstIn (goal.at.returns-then-not-is_group c).Start)) (work_shaped (secondIn (goal.at.returns-then-not-is_group c).Start)) c.requires work in
     record {
-      answered = λ yes. none_sent (anchorsIn (goal.at.returns-then-is_group c).Start) c.args.head.now c.args.bindings.now c.args.availability.now c.args.entries.now c.args.batches c.args.count c.args.sets.now (firstIn (goal.at.returns-then-is_group c).Start) (secondIn (goal.at.returns-then-is_group c).Start) is;
+      answered = λ yes. none_sent (anchorsIn (goal.at.returns-then-not-is_group c).Start) c.args.head.now c.args.bindings.now c.args.availability.now c.args.entries.now c.args.batches c.args.count c.args.sets.now (firstIn (goal.at.returns-then-not-is_group c).Start) (secondIn (goal.at.returns-then-not-is_group c).Start) is;
       refused = λ no. absurd (false≢true (sym no ∙ shaped));
     }
 
-pub returns-then-work_shaped : goal.returns-then-work_shaped
-returns-then-work_shaped c =
-    let other = sym c.work_shaped.ensures ∙ c.if-work_shaped.true in
+pub returns-then-not-work_shaped : goal.returns-then-not-work_shaped
+returns-then-not-work_shaped c =
+    let other = sym c.work_shaped.ensures ∙ c.if-not-work_shaped.true in
     record {
-      answered = λ yes. absurd (false≢true (sym other ∙ and_right (own_shaped (anchorsIn (goal.at.returns-then-work_shaped c).Start) (ownIn (goal.at.returns-then-work_shaped c).Start) (firstIn (goal.at.returns-then-work_shaped c).Start)) (work_shaped (secondIn (goal.at.returns-then-work_shaped c).Start)) yes));
+      answered = λ yes. absurd (false≢true (sym other ∙ and_right (own_shaped (anchorsIn (goal.at.returns-then-not-work_shaped c).Start) (ownIn (goal.at.returns-then-not-work_shaped c).Start) (firstIn (goal.at.returns-then-not-work_shaped c).Start)) (work_shaped (secondIn (goal.at.returns-then-not-work_shaped c).Start)) yes));
       refused = λ no. (refl, (refl, refl));
     }

@@ -9,14 +9,14 @@ use borrow.Author.Rules.{rules}
 use Rattle.session_lent_group.proofs.group.apply_projection_patch_batches.Goals as goal
 
 pub apply_group-requires : goal.apply_group-requires
-apply_group-requires c = sym c.memory_shaped.ensures ∙ c.if-memory_shaped.false
+apply_group-requires c = sym c.memory_shaped.ensures ∙ c.if-not-memory_shaped.false
 
 pub returns : goal.returns
 returns c = c.apply_group.ensures
 
-pub returns-then-memory_shaped : goal.returns-then-memory_shaped
-returns-then-memory_shaped c =
-    let other = sym c.memory_shaped.ensures ∙ c.if-memory_shaped.true in
+pub returns-then-not-memory_shaped : goal.returns-then-not-memory_shaped
+returns-then-not-memory_shaped c =
+    let other = sym c.memory_shaped.ensures ∙ c.if-not-memory_shaped.true in
     let anchors = anchors_with c.args.nodes.now c.args.pairs.now c.args.collections.now in
     let own = half_with c.args.head.now c.args.bindings.now c.args.availability.now c.args.entries.now [] in
     let first = half_with c.args.first_head.now c.args.first_bindings.now c.args.first_availability.now c.args.first_entries.now c.args.first_lengths.now in

@@ -5,7 +5,7 @@ use Rattle.session_lent_group.specs.declared.places.GroupLeft.{GroupLeft}
 use Rattle.session_lent_group.specs.declared.places.RefusedBatch.{RefusedBatch}
 use Rattle.session_lent_group.specs.Sendings.{LeftFits, SentFits}
 use Rattle.session_lent_group.specs.SendingsLaws.{SentAs, RanBetween, own_ended, own_broke, own_moved}
-use Rattle.std.specs.Prelude.{ℕ, Option, Some, None, Result, Ok, Err}
+use Rattle.std.specs.Prelude.{◌≡◌, ℕ, Option, Some, None, Result, Ok, Err}
 use Rattle.std.proofs.Common.{ap}
 use Rattle.std.proofs.lemmas.Result.{err_from_is_err_and}
 use borrow.Author.Rules.{rules}
