@@ -35,10 +35,10 @@ use Rattle.patch_writer.proofs.Surveyed.{head_small}
 both_same : {A B : Type 0} {p q : A × B} → ◌≡◌ {A = Result (A × B) WriteRefusal} (Ok p) (Ok q) → p ≡ q
 both_same e = cc
 
-first_same : {A B : Type 0} {a c : A} {b d : B} → ◌≡◌ {A = Result (A × B) WriteRefusal} (Ok (a , b)) (Ok (c , d)) → c ≡ a
+first_same : {A B : Type 0} {a c : A} {b d : B} → ◌≡◌ {A = Result (A × B) WriteRefusal} (Ok (a, b)) (Ok (c, d)) → c ≡ a
 first_same {A} {B} e = sym (ap (λ (p : A × B). p.0) (both_same e))
 
-second_same : {A B : Type 0} {a c : A} {b d : B} → ◌≡◌ {A = Result (A × B) WriteRefusal} (Ok (a , b)) (Ok (c , d)) → d ≡ b
+second_same : {A B : Type 0} {a c : A} {b d : B} → ◌≡◌ {A = Result (A × B) WriteRefusal} (Ok (a, b)) (Ok (c, d)) → d ≡ b
 second_same {A} {B} e = sym (ap (λ (p : A × B). p.1) (both_same e))
 
 pub heads_refused : (hs : List ProjectionPatch) (r : WriteRefusal) → head_survey hs ≡ Err r → (r ≡ refusal.OverCapacity) × (all few_operations hs ≡ false)

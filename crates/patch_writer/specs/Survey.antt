@@ -22,11 +22,11 @@ use Rattle.patch_part_writer.specs.Extent.{value_text, operation_text}
 use Rattle.patch_part_writer.specs.Parts.{inside_texts}
 use Rattle.patch_part_writer.specs.declared.written.WriteRefusal.{WriteRefusal}
 use Rattle.patch_part_writer.specs.declared.written.WriteRefusal.TheVariants as refusal
-use Rattle.patch_writer.specs.Set.{operation_at, list_from, heads, used, operation_total, head_sizes, operation_sizes, set_size, few_operations, short_at, inside_at, allowed_at, few_at, counts_fit, capacities_kept}
+use Rattle.patch_writer.specs.Set.{operation_at, list_from, heads, used, operation_total, head_sizes, operation_sizes, set_size, few_operations, short_at, inside_at, allowed_at, few_at, capacities_kept}
 
 -- so many operations, and so many bytes
 abbrev pub counts : ℕ → ℕ → Result (ℕ × ℕ) WriteRefusal
-counts operations bytes = Ok (operations , bytes)
+counts operations bytes = Ok (operations, bytes)
 
 unfoldable pub head_survey : List ProjectionPatch → Result (ℕ × ℕ) WriteRefusal
 head_survey hs = if all few_operations hs then counts (operation_total hs) (head_sizes hs) else Err refusal.OverCapacity
@@ -58,7 +58,7 @@ worse (Err ManyCharacters) (Err f) = Err f
 
 -- so many bytes, and the judgement of the values
 abbrev pub measured : ℕ → Result (Unit {0}) TextFault → Result (ℕ × Result (Unit {0}) TextFault) WriteRefusal
-measured bytes judgement = Ok (bytes , judgement)
+measured bytes judgement = Ok (bytes, judgement)
 
 unfoldable pub operation_survey : Edition → List ℕ → List OperationPlace → Result (ℕ × Result (Unit {0}) TextFault) WriteRefusal
 operation_survey ed texts ps = if all short_at ps then measured (operation_sizes ps) (judged_values ed texts ps) else Err refusal.OverCapacity

@@ -14,7 +14,9 @@ use patch_part_writer::extent::{HEADING_BYTES, head_size, operation_size};
 use patch_part_writer::head::{store_head, store_heading};
 use patch_part_writer::operation::store_operation;
 use patch_part_writer::written::WriteRefusal;
-use projection_patch::patch::{OperationPlace, ProjectionPatch, ProjectionPatchEdition, ProjectionPatchSet};
+use projection_patch::patch::{
+    OperationPlace, ProjectionPatch, ProjectionPatchEdition, ProjectionPatchSet,
+};
 
 // Writes operations one behind the other. Gives the position behind them.
 fn write_operations(places: &[OperationPlace], texts: &[u8], out: &mut [u8], at: usize) -> usize

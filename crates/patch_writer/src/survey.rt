@@ -10,7 +10,8 @@ use crate::judgement::{judge_operation, worse_of};
 use patch_part_writer::extent::{HEADING_BYTES, head_size, operation_size, operation_text};
 use patch_part_writer::written::WriteRefusal;
 use projection_patch::patch::{
-    OperationPlace, ProjectionPatch, ProjectionPatchEdition, ProjectionPatchSet, ProjectionPatchValue,
+    OperationPlace, ProjectionPatch, ProjectionPatchEdition, ProjectionPatchSet,
+    ProjectionPatchValue,
 };
 use projection_patch::text_rule::TextFault;
 

@@ -1,12 +1,11 @@
 -- `set::write_operations` meets its contract. The invariant: what is still to write, written from here, gives what the whole gives from the start.
-use Prim.Native.Nat.{ℕ}
 use Rattle.std.proofs.Common.{◌≡◌, ap, ◌∙◌, get_or, arith, drop_of_length-le}
 use Rattle.patch_part_writer.specs.Extent.{operation_size}
 use Rattle.patch_part_writer.proofs.PartsLaws.{size_kept}
 use Rattle.patch_writer.specs.Survey.{operation_bytes}
 use Rattle.patch_writer.proofs.Elements.{no_text_place}
 use Rattle.patch_writer.proofs.Passes.{place_within, operation_next, no_operations}
-use Rattle.patch_writer.proofs.Progress.{Progress, progress_fits, progress_next, progress_end, next_sized}
+use Rattle.patch_writer.proofs.Progress.{progress_fits, progress_next, progress_end, next_sized}
 use Rattle.patch_writer.proofs.set.write_operations.Goals as goal
 use Rattle.patch_writer.proofs.set.write_operations.Goals.{After-operation_size-next, At-loop-place}
 

@@ -7,9 +7,9 @@ use Rattle.bytes_wire.specs.Write.{overwrite}
 use Rattle.projection_patch.specs.declared.patch.ProjectionPatch.{ProjectionPatch}
 use Rattle.projection_patch.specs.declared.patch.OperationPlace.{OperationPlace}
 use Rattle.patch_writer.specs.Set.{list_from}
-use Rattle.patch_writer.specs.Survey.{operation_bytes, OperationsReady, HeadsHold}
+use Rattle.patch_writer.specs.Survey.{operation_bytes}
 use Rattle.patch_writer.proofs.Passes.{head_fits, own_within, own_ready, left_hold, left_written, none_left}
-use Rattle.patch_writer.proofs.Progress.{Progress, progress_end}
+use Rattle.patch_writer.proofs.Progress.{progress_end}
 use Rattle.patch_writer.proofs.set.write_patches.Goals as goal
 
 pub store_head-requires : goal.store_head-requires

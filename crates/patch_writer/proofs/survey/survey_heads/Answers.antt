@@ -2,7 +2,7 @@
 use Rattle.std.proofs.Common.{sym, subst, get_or, arith, drop_of_length-le}
 use Prim.Native.Nat.{ℕ, ◌+◌}
 use Rattle.patch_writer.proofs.Elements.{no_patch, whole_cons}
-use Rattle.patch_writer.proofs.Surveyed.{HeadsSeen, head_small, heads_next, heads_over, heads_end}
+use Rattle.patch_writer.proofs.Surveyed.{HeadsSeen, heads_next, heads_over, heads_end}
 use Rattle.patch_writer.proofs.survey.survey_heads.Goals as goal
 
 pub returns-then-count-gt-OPERATIONS : goal.returns-then-count-gt-OPERATIONS

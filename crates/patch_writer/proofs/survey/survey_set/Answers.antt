@@ -1,12 +1,10 @@
 -- `survey::survey_set` meets its contract: each test in turn.
-use Prim.Native.Nat.{ℕ, ◌+◌, ◌*◌, ◌≤◌}
+use Prim.Native.Nat.{◌+◌, ◌*◌, ◌≤◌}
 use Rattle.std.proofs.Common.{◌≡◌, sym, ◌∙◌, take, arith, rules}
-use Rattle.std.specs.Prelude.{Result, Err}
+use Rattle.std.specs.Prelude.{Err}
 use Rattle.spec_lists.proofs.ListLaws.{unmapped}
 use Rattle.spec_patch.specs.Sizes.{set_patches, text_bytes}
-use Rattle.spec_patch.specs.Edition.{Edition}
 use Rattle.projection_patch.specs.Meaning.{edition_of}
-use Rattle.patch_part_writer.specs.declared.written.WriteRefusal.{WriteRefusal}
 use Rattle.patch_writer.specs.Set.{set_places, heads}
 use Rattle.patch_writer.proofs.CallLaws.{Arrays}
 use Rattle.patch_writer.proofs.Verdict.{heads_refused, HeadsWithin, heads_within, operations_refused, OperationsWithin, operations_within, many_patches, many_operations, many_places, long_text, both_passed, small_sum}
