@@ -46,10 +46,15 @@ pub fn lent_anchors(catalog: ActiveProjectionTargetCatalog) -> LentAnchors
     ensures are { Lent (catalogue_of catalog) (take result.node_count result.nodes) (take result.binding_numbers result.bindings) (take result.collection_count result.collections) }
     ensures within { (result.node_count ≤ length result.nodes) × ((result.binding_numbers ≤ length result.bindings) × (result.collection_count ≤ length result.collections)) }
 {
+    // Arrays are stored from variables: the borrow checker covers no array that is stored straight from a field.
+    let nodes = catalog.node_anchors;
+    let pairs = catalog.binding_anchors;
+    let bindings = catalog::pair_numbers(pairs);
+    let collections = catalog.collection_anchors;
     LentAnchors {
-        nodes: catalog.node_anchors,
-        bindings: catalog::pair_numbers(catalog.binding_anchors),
-        collections: catalog.collection_anchors,
+        nodes,
+        bindings,
+        collections,
         node_count: anchors_held(catalog.node_count),
         binding_numbers: 2 * anchors_held(catalog.binding_count),
         collection_count: anchors_held(catalog.collection_count),

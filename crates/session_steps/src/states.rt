@@ -22,6 +22,7 @@ pub fn next_state(state: ShellLocalState, res: ShellTransitionResult) -> ShellLo
 {
     match res.disposition {
         ShellTransitionDisposition::Applied => res.state,
-        ShellTransitionDisposition::NoChange | ShellTransitionDisposition::Rejected => state,
+        ShellTransitionDisposition::NoChange => state,
+        ShellTransitionDisposition::Rejected => state,
     }
 }
