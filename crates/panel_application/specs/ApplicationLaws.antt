@@ -61,7 +61,7 @@ module _ (p : Projection) where
   clean_reading (fault f) n m e = absurd (let z : ◌≡◌ {A = ℕ} 0 1 = cc in omega arith)
   clean_reading (patches ps) n m e = go (is_empty (findings ps).found) refl e
     where
-      go : (t : Bool) → is_empty (findings ps).found ≡ t → code.Ok (quick.Clean n m) ≡ code.Ok {E = ProjectionPatchReadFault} (if not t then quick.Found else quick.Clean (length ps) (operation_count_lem ps)) → CleanReading p (patches ps)
+      go : (t : Bool) → is_empty (findings ps).found ≡ t → ◌≡◌ {A = code.Result QuickCheck ProjectionPatchReadFault} (code.Ok (quick.Clean n m)) (code.Ok (if not t then quick.Found else quick.Clean (length ps) (operation_count_lem ps))) → CleanReading p (patches ps)
       go true is e = record { ps = ps; readable = refl; outcome = rw is }
       go false is e = absurd (let z : ◌≡◌ {A = ℕ} 0 1 = cc in omega arith)
 
@@ -70,7 +70,7 @@ module _ (p : Projection) where
   found_reading (fault f) e = absurd (let z : ◌≡◌ {A = ℕ} 0 1 = cc in omega arith)
   found_reading (patches ps) e = go (is_empty (findings ps).found) refl e
     where
-      go : (t : Bool) → is_empty (findings ps).found ≡ t → code.Ok quick.Found ≡ code.Ok {E = ProjectionPatchReadFault} (if not t then quick.Found else quick.Clean (length ps) (operation_count_lem ps)) → apply_reading p (patches ps) ≡ refused 11
+      go : (t : Bool) → is_empty (findings ps).found ≡ t → ◌≡◌ {A = code.Result QuickCheck ProjectionPatchReadFault} (code.Ok quick.Found) (code.Ok (if not t then quick.Found else quick.Clean (length ps) (operation_count_lem ps))) → apply_reading p (patches ps) ≡ refused 11
       go true is e = absurd (let z : ◌≡◌ {A = ℕ} 0 1 = cc in omega arith)
       go false is e = rw is
 

@@ -148,6 +148,17 @@ module _ (ed : Edition) (id : ℕ) (limits : ShellLifecycleLimits) (state : Shel
       → answer ≡ inspection_by (limits_of limits) (cursor_of state.replay_cursor) e declared i → ByBatch answer
   preflight_passed answer h i told is = by_steps answer (is ∙ ap (inspection_by (limits_of limits) (cursor_of state.replay_cursor) e declared) told ∙ ap (λ c. c >> behind) h)
 
+-- ---- behind the counts
+
+module _ (l : Limits) (c : Cursor) (e : BatchEnvelope) (declared n k absent : ℕ) where
+  pub counts_refused : (r : SessionRefusal) (m : ℕ) → refuse r m ≡ counts_by l e declared n k → refuse r m ≡ inspection_by l c e declared (code.Ok (inspection.Clean n k absent))
+  unfolding inspection_by
+  counts_refused r m h = ap (λ a. a >> targets_by absent c e) h
+
+  pub counts_passed : (answer : Check (Unit {0})) → pass tt ≡ counts_by l e declared n k → answer ≡ targets_by absent c e → answer ≡ inspection_by l c e declared (code.Ok (inspection.Clean n k absent))
+  unfolding inspection_by
+  counts_passed answer h is = is ∙ ap (λ a. a >> targets_by absent c e) h
+
 -- ---- refusals that are handed on
 
 pub handed_on : (r : Result (Unit {0}) GateRefusal) (f : GateRefusal) → IsErrAnd r (λ g. g ≡ f) → gate_of r ≡ gate_of (Err f)
