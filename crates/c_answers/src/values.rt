@@ -61,6 +61,7 @@ fn bit(is: bool) -> u64
 fn value_to(disposition: u64, value: ValueLookup) -> GeysertrayValue
     ensures { result ≡ value_number_to disposition value }
 {
+    let text = value.text;
     GeysertrayValue {
         disposition,
         found: bit(value.found),
@@ -70,7 +71,7 @@ fn value_to(disposition: u64, value: ValueLookup) -> GeysertrayValue
         signed_number: value.signed,
         unsigned_number: value.unsigned,
         text_length: value.text_len as u64,
-        text: value.text,
+        text,
     }
 }
 

@@ -8,7 +8,7 @@ use Rattle.session_lent_group.specs.declared.places.RefusedBatch.{RefusedBatch}
 use Rattle.std.specs.Prelude.{◌≡◌, ℕ, Option, Some, None, Result, Ok, Err}
 use Rattle.std.proofs.Common.{ap, ◌∙◌}
 use Rattle.std.proofs.lemmas.Result.{err_from_is_err_and}
-use Rattle.session_lent_group.specs.Sendings.{LeftFits, left_from}
+use Rattle.session_lent_group.specs.Sendings.{LeftFits, turned_to}
 use Rattle.session_lent_group.specs.SendingsLaws.{SentAs, RanBetween, between_ended, between_broke, between_moved, fewer_left}
 use Rattle.session_lent_group.proofs.between.+send_between.Goals as goal
 use Rattle.session_lent_group.proofs.between.+send_between.Goals.{After-send_until_applied}
@@ -61,7 +61,8 @@ returns-in_err-half t c =
     let to'' = half_with c.send_between.new.head c.send_between.new.bindings c.send_between.new.availability c.send_between.new.entries c.send_between.new.lengths in
     let from'' = half_with c.send_between.new.to_head c.send_between.new.to_bindings c.send_between.new.to_availability c.send_between.new.to_entries c.send_between.new.to_lengths in
     let rest = subst (λ (x : GroupLeft). RanBetween (anchors k) (after k) (from k) c.args.sets.now x to'' from'' c.send_between.result) c.left_from.ensures (c.send_between.ensures.holding, c.send_between.ensures.whatever) in
-    let all = between_moved (anchors k) (from k) (to k) (after k) c.args.sets.now c.args.left c.in-Some.place c.in-Some.at (sent k _ (c.in_ok-applied.was ∙ ap Ok c.in-Some.is)) from'' to'' _ (subst (λ (x : Result LentHalf RefusedBatch). RanBetween (anchors k) (after k) (from k) c.args.sets.now (left_from c.args.left c.in-Some.place c.in-Some.at) to'' from'' x) c.in_err-half.was rest) in
+    let moved = between_moved (anchors k) (from k) (to k) (after k) c.args.sets.now c.args.left c.in-Some.place c.in-Some.at (sent k _ (c.in_ok-applied.was ∙ ap Ok c.in-Some.is)) from'' to'' c.send_between.result rest in
+    let all = subst (λ (x : Result LentHalf RefusedBatch). RanBetween (anchors k) (from k) (to k) c.args.sets.now c.args.left from'' to'' (turned_to x)) c.in_err-half.was moved in
     rw (p.1, p.2) (record { holding = all.0; whatever = all.1 })
 
 pub returns : goal.returns
@@ -71,5 +72,6 @@ returns t c =
     let to'' = half_with c.send_between.new.head c.send_between.new.bindings c.send_between.new.availability c.send_between.new.entries c.send_between.new.lengths in
     let from'' = half_with c.send_between.new.to_head c.send_between.new.to_bindings c.send_between.new.to_availability c.send_between.new.to_entries c.send_between.new.to_lengths in
     let rest = subst (λ (x : GroupLeft). RanBetween (anchors k) (after k) (from k) c.args.sets.now x to'' from'' c.send_between.result) c.left_from.ensures (c.send_between.ensures.holding, c.send_between.ensures.whatever) in
-    let all = between_moved (anchors k) (from k) (to k) (after k) c.args.sets.now c.args.left c.in-Some.place c.in-Some.at (sent k _ (c.in_ok-applied.was ∙ ap Ok c.in-Some.is)) from'' to'' _ (subst (λ (x : Result LentHalf RefusedBatch). RanBetween (anchors k) (after k) (from k) c.args.sets.now (left_from c.args.left c.in-Some.place c.in-Some.at) to'' from'' x) c.in_ok-half.was rest) in
+    let moved = between_moved (anchors k) (from k) (to k) (after k) c.args.sets.now c.args.left c.in-Some.place c.in-Some.at (sent k _ (c.in_ok-applied.was ∙ ap Ok c.in-Some.is)) from'' to'' c.send_between.result rest in
+    let all = subst (λ (x : Result LentHalf RefusedBatch). RanBetween (anchors k) (from k) (to k) c.args.sets.now c.args.left from'' to'' (turned_to x)) c.in_ok-half.was moved in
     rw c.turned.ensures (record { holding = all.0; whatever = all.1 })
