@@ -85,5 +85,8 @@ pub fn explain_batch(
 {
     let cap = session.context.limits.max_diagnostics_per_transition;
     let declared = declared_target_reference_count;
-    reasons::under_cap(cap, explain_steps(session, envelope, declared, set, edition))
+    reasons::under_cap(
+        cap,
+        explain_steps(session, envelope, declared, set, edition),
+    )
 }

@@ -86,11 +86,13 @@ fn explain_set(
     match inspection::inspect_set(set, edition, nodes, bindings, collections) {
         Err(_) => reading::explain_check(set, edition),
         Ok(SetInspection::Found) => reading::explain_findings(set, edition),
-        Ok(SetInspection::Clean {
-            patch_count,
-            operation_count,
-            absent,
-        }) => explain_clean(
+        Ok(
+            SetInspection::Clean {
+                patch_count,
+                operation_count,
+                absent,
+            },
+        ) => explain_clean(
             limits,
             cursor,
             nodes,

@@ -100,12 +100,7 @@ pub fn explain_counts(
             return explain_references(limits, references);
         }
     }
-    Err(BatchReason::CountsDiffer(
-        envelope.patch_count,
-        patches,
-        declared,
-        references,
-    ))
+    Err(BatchReason::CountsDiffer(envelope.patch_count, patches, declared, references))
 }
 
 // The one number that a cursor takes; Uninitialized asks for none, and after the last there is none.

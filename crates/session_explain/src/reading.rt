@@ -32,9 +32,7 @@ pub fn explain_findings(set: &[u8], edition: ProjectionPatchEdition) -> Result<(
             if logical == 0 {
                 return Ok(());
             }
-            Err(BatchReason::HasFindings(
-                checked.place, logical, first[0], first[1], first[2],
-            ))
+            Err(BatchReason::HasFindings(checked.place, logical, first[0], first[1], first[2]))
         }
         Err(_) => Ok(()),
     }

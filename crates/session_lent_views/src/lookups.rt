@@ -40,7 +40,12 @@ pub fn entry_count(head: &[u64], entries: &[u8], collection: u64) -> Option<usiz
 }
 
 // The entry at a position of its collection, from 0, and its mark.
-pub fn entry_at(head: &[u64], entries: &[u8], collection: u64, position: usize) -> Option<EntryLookup>
+pub fn entry_at(
+    head: &[u64],
+    entries: &[u8],
+    collection: u64,
+    position: usize,
+) -> Option<EntryLookup>
     ensures { PlaceView head.now entries.now collection position result }
 {
     let count = tables::entry_rows(head, entries.len())?;

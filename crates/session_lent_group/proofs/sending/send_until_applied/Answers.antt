@@ -1,4 +1,4 @@
--- `send_until_applied` meets its contract. The invariant: nothing was changed, and the batches that are left end as all do. 
+-- `send_until_applied` meets its contract. The invariant: nothing was changed, and the batches that are left end as all do.
 use Prim.Native.Nat.{ℕ, ◌+◌, ◌-◌, ◌≤◌}
 use mathlib.Core.Path.{◌≡◌, ap, subst, ◌∙◌}
 use native.Mathlib.Omega.{arith}
