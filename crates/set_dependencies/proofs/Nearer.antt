@@ -1,4 +1,5 @@
 -- A row inserted before the first rows, which move down, or behind them, where the last rows move up.
+use Rattle.std.specs.Prelude as code
 use Prim.Native.Nat.{ℕ, ◌+◌, ◌-◌, ◌*◌, ◌≤◌, ◌<◌}
 use mathlib.Core.Path.{◌≡◌, sym, ap, ◌∙◌, subst}
 use mathlib.Core.Bool.{Bool, true, false}
@@ -17,7 +18,6 @@ use Rattle.spec_dependencies.specs.Settled.{Settled}
 use Rattle.set_dependencies.specs.SettledRows.{settled_row, row_width, row_capacity, SettledTable, RowsIn, SettledIn}
 use Rattle.set_dependencies.specs.SettledRowsLaws.{start_within, settled_rows_lem}
 use Rattle.set_dependencies.specs.Settling.{SettlesAgain, SettlesTo}
-use Rattle.set_dependencies.specs.declared.settling.Settling.TheVariants as settling
 use Rattle.set_dependencies.specs.declared.settled_rows.SettledPlaces.{SettledPlaces}
 
 -- ---- a part that is lent, from a position to the end
@@ -90,7 +90,7 @@ module _ {p : SettledPlaces} {table : List ℕ} {t : List Settled} (s : SettledI
   rows_lent = subst (λ (l : List ℕ). SettledTable p.count l t) (sym (lent_from_lem table start)) (settled_rows_lem s)
 
   pub settles_in : (x : Option (List Settled)) (exit : List ℕ) → length (put_mid start (length table - start) table exit) ≡ length table
-      → SettlesAgain x p.count true exit → SettlesTo x (settling.Settled p) (put_mid start (length table - start) table exit)
+      → SettlesAgain x p.count true exit → SettlesTo x (code.Some p) (put_mid start (length table - start) table exit)
   settles_in none exit same h = absurd h
   settles_in (some u) exit same h = record {
     rows = record {
@@ -103,6 +103,6 @@ module _ {p : SettledPlaces} {table : List ℕ} {t : List Settled} (s : SettledI
     ascending = h.ascending;
   }
 
-pub contradicts_in : (x : Option (List Settled)) (n : ℕ) (exit table : List ℕ) → SettlesAgain x n false exit → SettlesTo x settling.Contradiction table
+pub contradicts_in : (x : Option (List Settled)) (n : ℕ) (exit table : List ℕ) → SettlesAgain x n false exit → SettlesTo x code.None table
 contradicts_in none n exit table h = tt
 contradicts_in (some u) n exit table h = absurd h

@@ -1,4 +1,5 @@
 -- A walk over a set, one step at a time: what is left, from what is settled now, gives what the whole walk gives.
+use Rattle.std.specs.Prelude as code
 use Prim.Native.Nat.{ℕ, ◌+◌, ◌*◌, ◌≤◌}
 use mathlib.Core.Path.{◌≡◌, refl, sym, ap, ap₂, ◌∙◌, subst}
 use mathlib.Core.List.{List, []}
@@ -26,9 +27,7 @@ use Rattle.set_dependencies.specs.declared.settled_rows.SettledPlaces.{SettledPl
 use Rattle.set_dependencies.specs.Settling.{SettlesTo, Judges}
 use Rattle.set_dependencies.specs.SettlingLaws.{places_length}
 use Rattle.set_dependencies.specs.SetSettling.{SetSettlesTo}
-use Rattle.set_dependencies.specs.declared.settling.Settling.{Settling}
-use Rattle.set_dependencies.specs.declared.settling.Settling.TheVariants as settling
-use Rattle.set_dependencies.specs.declared.walk_set.SetSettling.TheVariants as set-settling
+use Rattle.set_dependencies.specs.declared.walk_set.SettlingStop.TheVariants as settling-stop
 
 -- an operation expects the same, whatever its text
 expects_alike : (texts : List ℕ) (o : ProjectionPatchOperation) → expectations (operation_of texts o) ≡ expectations (operation_of [] o)
@@ -53,10 +52,10 @@ module _ (ed : Edition) (set : List ℕ) (whole : SettlingWalk) where
     pub same : settle_on (settle_operations patch index os settled) (λ u. settle_patches opened ps u) ≡ whole
 
   module _ {c : SetCursor} {places : SettledPlaces} {opened patch index : ℕ} {table : List ℕ} (w : SettlingRun c places opened patch index table) where
-    pub settling_end : (w.os ≡ []) × (w.ps ≡ []) → SetSettlesTo whole (set-settling.Settled places) table
+    pub settling_end : (w.os ≡ []) × (w.ps ≡ []) → SetSettlesTo whole (code.Ok places) table
     unfolding settle_operations settle_patches
     settling_end all =
-        subst (λ x. SetSettlesTo x (set-settling.Settled places) table)
+        subst (λ x. SetSettlesTo x (code.Ok places) table)
         (ap₂ (λ (os : List Operation) (ps : List Patch). settle_on (settle_operations patch index os w.settled) (λ u. settle_patches opened ps u)) (sym all.0) (sym all.1) ∙ w.same) w.stored
 
     -- a patch's head: its operations are left now, counted from 0
@@ -90,14 +89,14 @@ module _ (ed : Edition) (set : List ℕ) (whole : SettlingWalk) where
           ∙ ap (λ (os : List Operation). settle_on (settle_operations patch index os w.settled) (λ u. settle_patches opened w.ps u)) (sym v.is) ∙ w.same
 
       -- it goes on, or the whole walk ends at this operation
-      abbrev AfterSettling : List ℕ → Settling → Type 0
-      AfterSettling exit (settling.Settled more) = SettlingRun d more opened patch (index + 1) exit
-      AfterSettling exit settling.Contradiction = whole ≡ contradicts patch index
+      abbrev AfterSettling : List ℕ → code.Option SettledPlaces → Type 0
+      AfterSettling exit (code.Some more) = SettlingRun d more opened patch (index + 1) exit
+      AfterSettling exit code.None = whole ≡ contradicts patch index
 
       module _ (exit : List ℕ) where
-        go : (r : Settling) (y : Option (List Settled)) → judge_all (expectations v.first) w.settled ≡ y → SettlesTo y r exit → AfterSettling exit r
-        go (settling.Settled more) none e h = absurd h
-        go (settling.Settled more) (some u) e h = record {
+        go : (r : code.Option SettledPlaces) (y : Option (List Settled)) → judge_all (expectations v.first) w.settled ≡ y → SettlesTo y r exit → AfterSettling exit r
+        go (code.Some more) none e h = absurd h
+        go (code.Some more) (some u) e h = record {
           os = v.rest;
           ps = w.ps;
           here = v.next;
@@ -106,20 +105,20 @@ module _ (ed : Edition) (set : List ℕ) (whole : SettlingWalk) where
           few = omega (arith, w.few, position, expectations_bytes v.first, judge_all_length (expectations v.first) w.settled u e, places_length u h, places_length w.settled w.stored);
           same = by_step (some u) e;
         }
-        go settling.Contradiction none e h = sym (by_step none e)
-        go settling.Contradiction (some u) e h = absurd h
+        go code.None none e h = sym (by_step none e)
+        go code.None (some u) e h = absurd h
 
-        after : (r : Settling) → Judges places table exit r (expectations (operation_of [] x)) → AfterSettling exit r
+        after : (r : code.Option SettledPlaces) → Judges places table exit r (expectations (operation_of [] x)) → AfterSettling exit r
         after r judges =
             let within = v.next.inside in
             go r (judge_all (expectations v.first) w.settled) refl
             (subst (Judges places table exit r) expected judges w.settled w.stored (omega (arith, w.few, position, expectations_bytes v.first, within, short)))
 
-        pub settling_on : {r : Settling} {more : SettledPlaces} → Judges places table exit r (expectations (operation_of [] x)) → r ≡ settling.Settled more → SettlingRun d more opened patch (index + 1) exit
+        pub settling_on : {r : code.Option SettledPlaces} {more : SettledPlaces} → Judges places table exit r (expectations (operation_of [] x)) → r ≡ code.Some more → SettlingRun d more opened patch (index + 1) exit
         settling_on {r} judges is = subst (AfterSettling exit) is (after r judges)
 
-        pub settling_contradicts : {r : Settling} → Judges places table exit r (expectations (operation_of [] x)) → r ≡ settling.Contradiction → SetSettlesTo whole (set-settling.Contradiction patch index) exit
-        settling_contradicts {r} judges is = subst (λ y. SetSettlesTo y (set-settling.Contradiction patch index) exit) (sym (subst (AfterSettling exit) is (after r judges))) (refl, refl)
+        pub settling_contradicts : {r : code.Option SettledPlaces} → Judges places table exit r (expectations (operation_of [] x)) → r ≡ code.None → SetSettlesTo whole (code.Err (settling-stop.Contradiction patch index)) exit
+        settling_contradicts {r} judges is = subst (λ y. SetSettlesTo y (code.Err (settling-stop.Contradiction patch index)) exit) (sym (subst (AfterSettling exit) is (after r judges))) (refl, refl)
 
 pub settling_start : (ed : Edition) (set : List ℕ) {c : SetCursor} {table : List ℕ} (ps : List Patch) → AtSteps ed set c [] ps → SettledIn no_places table [] → SettlingRun ed set (settle_patches 0 ps []) c no_places 0 0 0 table
 unfolding settle_operations

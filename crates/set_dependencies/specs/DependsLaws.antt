@@ -1,5 +1,6 @@
 -- The answer of the call, by what its steps answer.
 use Rattle.std.specs.Prelude.{ℕ, ◌+◌, ◌*◌, ◌≤◌, ◌<◌, refl, Bool, length, if◌then◌else◌}
+use Rattle.std.specs.Prelude as code
 use Rattle.std.proofs.Math.Path.{◌≡◌}
 use Rattle.std.proofs.Common.{sym, ap, ◌∙◌, le-leb, length-append}
 use Rattle.std.proofs.Math.Bool.{true, false, not}
@@ -20,12 +21,14 @@ use Rattle.projection_patch.specs.ReadAnswers.{fault_to}
 use Rattle.projection_patch.specs.declared.read_values.ProjectionPatchReadFault.{ProjectionPatchReadFault}
 use Rattle.check_findings.specs.Found.{is_found}
 use Rattle.check_quick.specs.QuickAnswers.{quick_answer}
+use Rattle.check_quick.specs.declared.quick_set.QuickCheck.{QuickCheck}
 use Rattle.check_quick.specs.declared.quick_set.QuickCheck.TheVariants as quick
 use Rattle.set_dependencies.specs.SettledRows.{SettledIn}
 use Rattle.set_dependencies.specs.declared.settled_rows.SettledPlaces.{SettledPlaces}
 use Rattle.set_dependencies.specs.SetSettling.{SetSettlesTo}
-use Rattle.set_dependencies.specs.DependsAnswers.{depends_answer_to}
-use Rattle.set_dependencies.specs.declared.walk_set.SetSettling.TheVariants as set-settling
+use Rattle.set_dependencies.specs.DependsAnswers.{depends_answer_to, stopped_answer}
+use Rattle.set_dependencies.specs.declared.walk_set.SettlingStop.{SettlingStop}
+use Rattle.set_dependencies.specs.declared.walk_set.SettlingStop.TheVariants as settling-stop
 use Rattle.set_dependencies.specs.declared.depends.DependenciesRefusal.TheVariants as refusal
 use Rattle.set_dependencies.specs.declared.depends.DependenciesAnswer.{DependenciesAnswer}
 use Rattle.set_dependencies.specs.declared.depends.DependenciesAnswer.TheVariants as answer
@@ -64,17 +67,24 @@ module _ (t : List Settled) (lent : List ℕ) where
 -- ---- by the walk
 
 module _ (table : List ℕ) where
-  pub settled_walk : (w : SettlingWalk) (p : SettledPlaces) → SetSettlesTo w (set-settling.Settled p) table → (t : List Settled) × (w ≡ settles t) × SettledIn p table t
+  pub settled_walk : (w : SettlingWalk) (p : SettledPlaces) → SetSettlesTo w (code.Ok p) table → (t : List Settled) × (w ≡ settles t) × SettledIn p table t
   settled_walk (settles t) p h = (t, refl, h)
   settled_walk (contradicts q o) p h = absurd h
 
-  pub contradicted_walk : (w : SettlingWalk) (i j : ℕ) → SetSettlesTo w (set-settling.Contradiction i j) table → w ≡ contradicts i j
+  pub contradicted_walk : (w : SettlingWalk) (i j : ℕ) → SetSettlesTo w (code.Err (settling-stop.Contradiction i j)) table → w ≡ contradicts i j
   contradicted_walk (settles t) i j h = absurd h
   contradicted_walk (contradicts p o) i j h = λ x. contradicts (sym h.0 x) (sym h.1 x)
 
-  pub readable_walk : (w : SettlingWalk) (f : ProjectionPatchReadFault) → SetSettlesTo w (set-settling.Unreadable f) table → ⊥
+  pub readable_walk : (w : SettlingWalk) (f : ProjectionPatchReadFault) → SetSettlesTo w (code.Err (settling-stop.Unreadable f)) table → ⊥
   readable_walk (settles t) f h = h
   readable_walk (contradicts p o) f h = h
+
+  -- the answer of a walk that stops is that of the meaning
+  pub stopped_walk : (w : SettlingWalk) (stop : SettlingStop) → SetSettlesTo w (code.Err stop) table → (lent : List ℕ) → (stopped_answer stop ≡ depends_answer_to (answer_by (dependencies_by w) lent).answer) × (lent ≡ (answer_by (dependencies_by w) lent).output)
+  unfolding dependencies_by answer_by
+  stopped_walk (settles t) stop h lent = absurd h
+  stopped_walk (contradicts p o) (settling-stop.Contradiction i j) h lent = (λ x. answer.Never (h.0 x) (h.1 x), refl)
+  stopped_walk (contradicts p o) (settling-stop.Unreadable f) h lent = absurd h
 
 -- ---- by the quick check
 
@@ -83,34 +93,30 @@ module _ (lent : List ℕ) where
   abbrev pub Depends : SetReading → DependenciesAnswer → List ℕ → Type 0
   Depends s r out = (r ≡ depends_answer_to (answer_reading s lent).answer) × (out ≡ (answer_reading s lent).output)
 
-  pub clean_depends : (s : SetReading) (a b : ℕ) → quick_answer s ≡ quick.Clean a b → (r : DependenciesAnswer) (out : List ℕ)
+  pub clean_depends : (s : SetReading) (a b : ℕ) → quick_answer s ≡ code.Ok (quick.Clean a b) → (r : DependenciesAnswer) (out : List ℕ)
       → ((ps : List Patch) → s ≡ patches ps → r ≡ depends_answer_to (answer_by (dependencies ps) lent).answer) → ((ps : List Patch) → s ≡ patches ps → out ≡ (answer_by (dependencies ps) lent).output)
       → Depends s r out
   unfolding answer_reading is_found
   clean_depends (fault f) a b e r out h k = absurd (let z : ◌≡◌ {A = ℕ} 0 1 = cc in omega arith)
   clean_depends (patches ps) a b e r out h k = go (is_empty (findings ps).found) _ e (h ps refl) (k ps refl)
     where
-      go : (t : Bool) (n : ℕ) → (if not t then quick.Found else quick.Clean (length ps) n) ≡ quick.Clean a b
+      go : (t : Bool) (n : ℕ) → ◌≡◌ {A = code.Result QuickCheck ProjectionPatchReadFault} (code.Ok (if not t then quick.Found else quick.Clean (length ps) n)) (code.Ok (quick.Clean a b))
           → r ≡ depends_answer_to (answer_by (dependencies ps) lent).answer → out ≡ (answer_by (dependencies ps) lent).output
           → (r ≡ depends_answer_to (if t then answer_by (dependencies ps) lent else answered (refused has_findings) lent).answer) × (out ≡ (if t then answer_by (dependencies ps) lent else answered (refused has_findings) lent).output)
       go true n e h k = (h, k)
       go false n e h k = absurd (let z : ◌≡◌ {A = ℕ} 0 1 = cc in omega arith)
 
-  pub found_depends : (s : SetReading) → quick_answer s ≡ quick.Found → Depends s (answer.Refused refusal.Findings) lent
+  pub found_depends : (s : SetReading) → quick_answer s ≡ code.Ok quick.Found → Depends s (answer.Refused refusal.Findings) lent
   unfolding answer_reading is_found
   found_depends (fault f) e = absurd (let z : ◌≡◌ {A = ℕ} 0 1 = cc in omega arith)
   found_depends (patches ps) e = go (is_empty (findings ps).found) _ e
     where
-      go : (t : Bool) (n : ℕ) → (if not t then quick.Found else quick.Clean (length ps) n) ≡ quick.Found
+      go : (t : Bool) (n : ℕ) → ◌≡◌ {A = code.Result QuickCheck ProjectionPatchReadFault} (code.Ok (if not t then quick.Found else quick.Clean (length ps) n)) (code.Ok quick.Found)
           → (answer.Refused refusal.Findings ≡ depends_answer_to (if t then answer_by (dependencies ps) lent else answered (refused has_findings) lent).answer) × (lent ≡ (if t then answer_by (dependencies ps) lent else answered (refused has_findings) lent).output)
       go true n e = absurd (let z : ◌≡◌ {A = ℕ} 0 1 = cc in omega arith)
       go false n e = (refl, refl)
 
-  pub refused_depends : (s : SetReading) (f : ProjectionPatchReadFault) → quick_answer s ≡ quick.Refused f → Depends s (answer.Refused (refusal.Unreadable f)) lent
+  pub refused_depends : (s : SetReading) (f : ProjectionPatchReadFault) → quick_answer s ≡ code.Err f → Depends s (answer.Refused (refusal.Unreadable f)) lent
   unfolding answer_reading
   refused_depends (fault g) f e = let same : fault_to g ≡ f = cc in (ap (λ x. answer.Refused (refusal.Unreadable x)) (sym same), refl)
-  refused_depends (patches ps) f e = absurd (go (is_found (findings ps).found) _ e)
-    where
-      go : (t : Bool) (n : ℕ) → (if t then quick.Found else quick.Clean (length ps) n) ≡ quick.Refused f → ⊥
-      go true n e = let z : ◌≡◌ {A = ℕ} 0 1 = cc in omega arith
-      go false n e = let z : ◌≡◌ {A = ℕ} 0 1 = cc in omega arith
+  refused_depends (patches ps) f e = absurd (let z : ◌≡◌ {A = ℕ} 0 1 = cc in omega arith)

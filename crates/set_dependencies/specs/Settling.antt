@@ -1,4 +1,5 @@
 -- What judging expectations answers, and the table that it leaves.
+use Rattle.std.specs.Prelude as code
 use Rattle.std.specs.Prelude.{ℕ, ◌+◌, ◌≤◌, Bool, true, false, List, length}
 use Rattle.std.proofs.Math.Option.{Option, none, some}
 use Rattle.spec_dependencies.specs.Expectations.{Expectation}
@@ -7,8 +8,6 @@ use Rattle.set_dependencies.specs.SettledRows.{row_capacity, SettledTable, Settl
 use Rattle.set_dependencies.specs.declared.settled_rows.SettledPlaces.{SettledPlaces}
 use Rattle.set_dependencies.specs.declared.settling.KeyUse.{KeyUse}
 use Rattle.set_dependencies.specs.declared.settling.KeyUse.TheVariants as key-use
-use Rattle.set_dependencies.specs.declared.settling.Settling.{Settling}
-use Rattle.set_dependencies.specs.declared.settling.Settling.TheVariants as settling
 
 -- an added key must be absent
 abbrev pub expected_of : KeyUse → Bool
@@ -33,12 +32,12 @@ SettlesAgain none n true table = ⊥
 SettlesAgain none n false table = Unit {0}
 
 -- what is settled now stands in the table, or there is a contradiction
-abbrev pub SettlesTo : Option (List Settled) → Settling → List ℕ → Type 0
-SettlesTo (some u) (settling.Settled p) table = SettledIn p table u
-SettlesTo (some u) settling.Contradiction table = ⊥
-SettlesTo none (settling.Settled p) table = ⊥
-SettlesTo none settling.Contradiction table = Unit {0}
+abbrev pub SettlesTo : Option (List Settled) → code.Option SettledPlaces → List ℕ → Type 0
+SettlesTo (some u) (code.Some p) table = SettledIn p table u
+SettlesTo (some u) code.None table = ⊥
+SettlesTo none (code.Some p) table = ⊥
+SettlesTo none code.None table = Unit {0}
 
 -- whatever a table stores at these places, judging these expectations gives the answer and the table afterwards, if there is a row for each
-abbrev pub Judges : SettledPlaces → List ℕ → List ℕ → Settling → List Expectation → Type 0
+abbrev pub Judges : SettledPlaces → List ℕ → List ℕ → code.Option SettledPlaces → List Expectation → Type 0
 Judges p table exit r es = (t : List Settled) → SettledIn p table t → p.count + length es ≤ row_capacity → SettlesTo (judge_all es t) r exit

@@ -1,4 +1,5 @@
 -- An expectation judged in a table: the row of its key is replaced, inserted, or contradicts.
+use Rattle.std.specs.Prelude as code
 use Rattle.std.specs.Prelude.{ℕ, ◌+◌, ◌≤◌, ◌<◌, ◌≡◌, refl, Bool, true, false, List, [], ◌∷◌, map, get_or}
 use Rattle.std.proofs.Math.Path.{sym, ap, subst}
 use Rattle.std.proofs.Common.{◌∙◌, arith}
@@ -23,8 +24,6 @@ use Rattle.set_dependencies.specs.SettledRowsLaws.{row_wide, no_key, settled_row
 use Rattle.set_dependencies.specs.PlaceLaws.{PlaceTells, place_tells}
 use Rattle.set_dependencies.specs.Settling.{SettlesAgain, SettlesTo}
 use Rattle.set_dependencies.specs.declared.settled_rows.SettledPlaces.{SettledPlaces}
-use Rattle.set_dependencies.specs.declared.settling.Settling.{Settling}
-use Rattle.set_dependencies.specs.declared.settling.Settling.TheVariants as settling
 use Rattle.std.specs.Prelude.{Result, Ok, Err}
 
 pub table_length : {count : ℕ} {table : List ℕ} (t : List Settled) → SettledTable count table t → length t ≡ count
@@ -91,7 +90,7 @@ module _ (e : Expectation) (fits : U64 e.collection × U64 e.key) (t : List Sett
     pub first_within : at ≤ length t
     first_within = (tells (Err at) is).0
 
-    pub settles_first : (p : SettledPlaces) (exit row : List ℕ) → row ≡ settled_row (settled_by e.expected e) → RowsIn p exit (insert_at at row (map settled_row t)) → SettlesTo (judge e t) (settling.Settled p) exit
+    pub settles_first : (p : SettledPlaces) (exit row : List ℕ) → row ≡ settled_row (settled_by e.expected e) → RowsIn p exit (insert_at at row (map settled_row t)) → SettlesTo (judge e t) (code.Some p) exit
     unfolding judge judge_by upsert_at
     settles_first p exit row r h =
         let kept : SettledIn p exit (more e.expected) = record {
@@ -104,35 +103,35 @@ module _ (e : Expectation) (fits : U64 e.collection × U64 e.key) (t : List Sett
 -- ---- one expectation after another
 
 -- a table has at most one row more
-pub judged_count : (e : Expectation) {p : SettledPlaces} (more : SettledPlaces) {table : List ℕ} (t : List Settled) → SettledIn p table t → (exit : List ℕ) → SettlesTo (judge e t) (settling.Settled more) exit → more.count ≤ p.count + 1
+pub judged_count : (e : Expectation) {p : SettledPlaces} (more : SettledPlaces) {table : List ℕ} (t : List Settled) → SettledIn p table t → (exit : List ℕ) → SettlesTo (judge e t) (code.Some more) exit → more.count ≤ p.count + 1
 unfolding judge_all
 judged_count e {p} more {table} t s exit h = go (judge e t) refl h
   where
-    go : (x : Option (List Settled)) → judge e t ≡ x → SettlesTo x (settling.Settled more) exit → more.count ≤ p.count + 1
+    go : (x : Option (List Settled)) → judge e t ≡ x → SettlesTo x (code.Some more) exit → more.count ≤ p.count + 1
     go none is h = absurd h
     go (some u) is h = omega (arith, judge_all_length (e ∷ []) t u (rw is), places_length t s, places_length u h)
 
 -- the others go on from what the first settled
-pub judged_on : (e : Expectation) (es : List Expectation) {more : SettledPlaces} {middle : List ℕ} (t : List Settled) → SettlesTo (judge e t) (settling.Settled more) middle
-    → (r : Settling) (exit : List ℕ) → ((u : List Settled) → SettledIn more middle u → SettlesTo (judge_all es u) r exit) → SettlesTo (judge_all (e ∷ es) t) r exit
+pub judged_on : (e : Expectation) (es : List Expectation) {more : SettledPlaces} {middle : List ℕ} (t : List Settled) → SettlesTo (judge e t) (code.Some more) middle
+    → (r : code.Option SettledPlaces) (exit : List ℕ) → ((u : List Settled) → SettledIn more middle u → SettlesTo (judge_all es u) r exit) → SettlesTo (judge_all (e ∷ es) t) r exit
 unfolding judge_all
 judged_on e es {more} {middle} t h r exit later = go (judge e t) h
   where
-    go : (x : Option (List Settled)) → SettlesTo x (settling.Settled more) middle → SettlesTo (further_settled x (λ u. judge_all es u)) r exit
+    go : (x : Option (List Settled)) → SettlesTo x (code.Some more) middle → SettlesTo (further_settled x (λ u. judge_all es u)) r exit
     go none h = absurd h
     go (some u) h = later u h
 
 -- where the first contradicts, all do
-pub judged_none : (e : Expectation) (es : List Expectation) (t : List Settled) (middle : List ℕ) → SettlesTo (judge e t) settling.Contradiction middle
-    → (exit : List ℕ) → SettlesTo (judge_all (e ∷ es) t) settling.Contradiction exit
+pub judged_none : (e : Expectation) (es : List Expectation) (t : List Settled) (middle : List ℕ) → SettlesTo (judge e t) code.None middle
+    → (exit : List ℕ) → SettlesTo (judge_all (e ∷ es) t) code.None exit
 unfolding judge_all
 judged_none e es t middle h exit = go (judge e t) h
   where
-    go : (x : Option (List Settled)) → SettlesTo x settling.Contradiction middle → SettlesTo (further_settled x (λ u. judge_all es u)) settling.Contradiction exit
+    go : (x : Option (List Settled)) → SettlesTo x code.None middle → SettlesTo (further_settled x (λ u. judge_all es u)) code.None exit
     go none h = tt
     go (some u) h = absurd h
 
-pub judged_one : (e : Expectation) (t : List Settled) (r : Settling) (exit : List ℕ) → SettlesTo (judge e t) r exit → SettlesTo (judge_all (e ∷ []) t) r exit
+pub judged_one : (e : Expectation) (t : List Settled) (r : code.Option SettledPlaces) (exit : List ℕ) → SettlesTo (judge e t) r exit → SettlesTo (judge_all (e ∷ []) t) r exit
 unfolding judge_all
-judged_one e t (settling.Settled n) exit h = judged_on e [] t h (settling.Settled n) exit (λ u k. k)
-judged_one e t settling.Contradiction exit h = judged_none e [] t exit h exit
+judged_one e t (code.Some n) exit h = judged_on e [] t h (code.Some n) exit (λ u k. k)
+judged_one e t code.None exit h = judged_none e [] t exit h exit

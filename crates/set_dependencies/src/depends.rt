@@ -7,9 +7,9 @@ ghost use Rattle.spec_dependencies.specs.Dependencies.{settles, dependencies_by,
 ghost use Rattle.spec_dependencies.specs.Answer.{refusal_number, answer_by, dependencies_of};
 ghost use Rattle.projection_patch.specs.Meaning.{edition_of};
 ghost use Rattle.set_dependencies.specs.SettledRows.{SettledTable};
-ghost use Rattle.set_dependencies.specs.DependsAnswers.{depends_refusal_of, depends_answer_to};
+ghost use Rattle.set_dependencies.specs.DependsAnswers.{depends_refusal_of, depends_answer_to, stopped_answer};
 
-use crate::walk_set::SetSettling;
+use crate::walk_set::SettlingStop;
 use crate::{settled_rows, walk_set, write_keys};
 use check_quick::quick_set;
 use check_quick::quick_set::QuickCheck;
@@ -60,26 +60,36 @@ fn list_keys(table: &[u8], count: usize, out: &mut [u64]) -> DependenciesAnswer
     DependenciesAnswer::Needs { held, lacked }
 }
 
+// The answer of a walk that stops.
+fn stopped(stop: SettlingStop) -> DependenciesAnswer
+    ensures { result ≡ stopped_answer stop }
+{
+    match stop {
+        SettlingStop::Contradiction { patch, operation } => DependenciesAnswer::Never {
+            patch,
+            operation,
+        },
+        SettlingStop::Unreadable(fault) => DependenciesAnswer::Refused(
+            DependenciesRefusal::Unreadable(fault),
+        ),
+    }
+}
+
 // The answer of a set that reads and has no findings.
 fn depends_clean(set: &[u8], edition: ProjectionPatchEdition, out: &mut [u64]) -> DependenciesAnswer
     ensures answered { (ps : List Patch) → read_set (edition_of edition) set.now ≡ patches ps → result ≡ depends_answer_to (answer_by (dependencies ps) out.old).answer }
     ensures written { (ps : List Patch) → read_set (edition_of edition) set.now ≡ patches ps → out.new ≡ (answer_by (dependencies ps) out.old).output }
 {
     let mut table = [0u8; settled_rows::TABLE_BYTES];
-    match patch_walk::open_set(set, edition) {
+    let opened = patch_walk::open_set(set, edition);
+    match opened {
         Ok(start) => match walk_set::settle_steps(set, edition, start, &mut table) {
-            SetSettling::Settled(places) => list_keys(
+            Ok(places) => list_keys(
                 settled_rows::rows_from(&table, places.start),
                 places.count,
                 out,
             ),
-            SetSettling::Contradiction { patch, operation } => DependenciesAnswer::Never {
-                patch,
-                operation,
-            },
-            SetSettling::Unreadable(fault) => DependenciesAnswer::Refused(
-                DependenciesRefusal::Unreadable(fault),
-            ),
+            Err(stop) => stopped(stop),
         },
         Err(fault) => DependenciesAnswer::Refused(DependenciesRefusal::Unreadable(fault)),
     }
@@ -92,10 +102,10 @@ pub fn depends(set: &[u8], edition: ProjectionPatchEdition, out: &mut [u64]) -> 
     ensures written { out.new ≡ (dependencies_of (edition_of edition) set.now out.old).output }
 {
     match quick_set::quick_check(set, edition) {
-        Ok(QuickCheck::Clean { .. }) => depends_clean(set, edition, out),
-        Ok(QuickCheck::Found) => DependenciesAnswer::Refused(DependenciesRefusal::Findings),
-        Err(fault) => DependenciesAnswer::Refused(DependenciesRefusal::Unreadable(
-            fault,
-        )),
+        Ok(checked) => match checked {
+            QuickCheck::Clean { .. } => depends_clean(set, edition, out),
+            QuickCheck::Found => DependenciesAnswer::Refused(DependenciesRefusal::Findings),
+        },
+        Err(fault) => DependenciesAnswer::Refused(DependenciesRefusal::Unreadable(fault)),
     }
 }

@@ -24,7 +24,7 @@ pub const ROWS: usize = ProjectionPatchSet::BYTES / KEY_BYTES;
 pub const TABLE_BYTES: usize = 2 * ROWS * WIDTH;
 
 // Where the rows of a table begin, counted in rows, and how many they are.
-#[derive(Drop)]
+#[derive(Clone, Copy)]
 pub struct SettledPlaces {
     pub start: usize,
     pub count: usize,
@@ -41,7 +41,7 @@ pub fn rows_from(table: &[u8], start: usize) -> &[u8]
     &table[from..]
 }
 
-#[derive(Drop)]
+#[derive(Clone, Copy)]
 pub struct SettledKey {
     pub collection: u64,
     pub key: u64,

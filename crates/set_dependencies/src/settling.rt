@@ -6,7 +6,6 @@ ghost use Rattle.bytes_records.specs.Search.{place_of};
 ghost use Rattle.projection_patch.specs.Meaning.{before_of, operation_of};
 ghost use Rattle.set_dependencies.specs.SettledRows.{row_capacity, SettledTable, SettledIn};
 ghost use Rattle.set_dependencies.specs.Settling.{expected_of, left_of, expectation_of, SettlesAgain, SettlesTo, Judges};
-ghost use Rattle.set_dependencies.specs.declared.settling.Settling.TheVariants as settling;
 
 use crate::settled_rows::{SettledKey, SettledPlaces};
 use crate::{find_settled, insert_settled, settled_rows};
@@ -45,14 +44,6 @@ impl KeyUse {
     }
 }
 
-// Where the rows of the table are now, or that the key is not as expected. A table that is full stays as it is; one of as many rows as a set
-// can look for never is.
-#[derive(Drop)]
-pub enum Settling {
-    Settled(SettledPlaces),
-    Contradiction,
-}
-
 // Whether a key that is settled already, in the row at position `at`, is as expected; it keeps what it must be at the start.
 fn settle_again(
     rows: &mut [u8],
@@ -89,7 +80,7 @@ fn settle_first(
     key_use: KeyUse,
 ) -> SettledPlaces
     ensures { (t : List Settled) → SettledIn places table.old t → place_of settled_key (collection ∷ key ∷ []) t ≡ Err at
-        → places.count < row_capacity → SettlesTo (judge (expectation_of collection key key_use) t) (settling.Settled result) table.new }
+        → places.count < row_capacity → SettlesTo (judge (expectation_of collection key key_use) t) (Some result) table.new }
 {
     let row = settled_rows::settled_row(SettledKey {
         collection,
@@ -100,14 +91,15 @@ fn settle_first(
     insert_settled::insert_near(table, places, at, &row)
 }
 
-// Judges one key that an operation looks for.
+// Judges one key that an operation looks for: where the rows of the table are now, or none where the key is not as expected. A table that is
+// full stays as it is; one of as many rows as a set can look for never is.
 fn settle(
     table: &mut [u8],
     places: SettledPlaces,
     collection: u64,
     key: u64,
     key_use: KeyUse,
-) -> Settling
+) -> Option<SettledPlaces>
     ensures { (t : List Settled) → SettledIn places table.old t → places.count < row_capacity
         → SettlesTo (judge (expectation_of collection key key_use) t) result table.new }
 {
@@ -115,7 +107,7 @@ fn settle(
     match find_settled::find_by_halving(rows, settled_rows::WIDTH, places.count, collection, key) {
         Ok(at) => {
             if table.len() / settled_rows::WIDTH < places.start {
-                return Settling::Contradiction;
+                return None;
             }
             let from = places.start * settled_rows::WIDTH;
             if settle_again(
@@ -126,11 +118,11 @@ fn settle(
                 key,
                 key_use,
             ) {
-                return Settling::Settled(places);
+                return Some(places);
             }
-            Settling::Contradiction
+            None
         }
-        Err(at) => Settling::Settled(settle_first(table, places, at, collection, key, key_use)),
+        Err(at) => Some(settle_first(table, places, at, collection, key, key_use)),
     }
 }
 
@@ -142,16 +134,14 @@ fn settle_beside(
     key: CollectionKey,
     key_use: KeyUse,
     before: Option<CollectionKey>,
-) -> Settling
+) -> Option<SettledPlaces>
     ensures { Judges places table.old table.new result (expectation_of collection.0 key.0 key_use ∷ neighbour collection.0 (before_of before)) }
 {
     let node = collection.raw();
-    match settle(table, places, node, key.raw(), key_use) {
-        Settling::Settled(more) => match before {
-            None => Settling::Settled(more),
-            Some(beside) => settle(table, more, node, beside.raw(), KeyUse::Kept),
-        },
-        Settling::Contradiction => Settling::Contradiction,
+    let more = settle(table, places, node, key.raw(), key_use)?;
+    match before {
+        None => Some(more),
+        Some(beside) => settle(table, more, node, beside.raw(), KeyUse::Kept),
     }
 }
 
@@ -160,13 +150,13 @@ pub fn settle_operation(
     table: &mut [u8],
     places: SettledPlaces,
     operation: ProjectionPatchOperation,
-) -> Settling
+) -> Option<SettledPlaces>
     ensures { Judges places table.old table.new result (expectations (operation_of [] operation)) }
 {
     let alone = None;
     match operation {
-        ProjectionPatchOperation::SetBindingValue { .. } => Settling::Settled(places),
-        ProjectionPatchOperation::SetNodeAvailability { .. } => Settling::Settled(places),
+        ProjectionPatchOperation::SetBindingValue { .. } => Some(places),
+        ProjectionPatchOperation::SetNodeAvailability { .. } => Some(places),
         ProjectionPatchOperation::CollectionInsert {
             collection,
             key,

@@ -1,5 +1,6 @@
 // One walk over a set that settles the keys of its operations.
-ghost use Rattle.std.specs.Prelude.{List, [], ◌≤◌, length};
+ghost use Rattle.std.specs.Prelude.{◌≡◌, List, [], ◌≤◌, length};
+ghost use Rattle.set_dependencies.specs.declared.walk_set.SettlingStop.TheVariants.{Unreadable};
 ghost use Rattle.spec_patch.specs.Sizes.{set_bytes};
 ghost use Rattle.spec_patch.specs.Patch.{Patch};
 ghost use Rattle.spec_dependencies.specs.Dependencies.{settle_patches};
@@ -9,27 +10,34 @@ ghost use Rattle.set_dependencies.specs.SettledRows.{SettledIn, no_places};
 ghost use Rattle.set_dependencies.specs.SetSettling.{SetSettlesTo};
 
 use crate::settled_rows::SettledPlaces;
-use crate::settling::Settling;
 use crate::{settled_rows, settling};
 use patch_walk::{SetCursor, SetStep};
 use projection_patch::patch::ProjectionPatchEdition;
 use projection_patch::read_values::ProjectionPatchReadFault;
 
-// Where the rows of the table are at the end; or the first operation that contradicts those before it, by its patch and its index there.
-#[derive(Drop)]
-pub enum SetSettling {
-    Settled(SettledPlaces),
+// Why a walk ends before the set does: at the first operation that contradicts those before it, by its patch and its index there; or where
+// the set does not read.
+#[derive(Clone, Copy)]
+pub enum SettlingStop {
     Contradiction { patch: usize, operation: usize },
     Unreadable(ProjectionPatchReadFault),
 }
 
-// Settles the keys of the operations from a cursor on, in a table without rows.
+impl From<ProjectionPatchReadFault> for SettlingStop {
+    ghost from_gives = { λ fault stop. stop ≡ Unreadable fault };
+
+    fn from(fault: ProjectionPatchReadFault) -> SettlingStop {
+        SettlingStop::Unreadable(fault)
+    }
+}
+
+// Settles the keys of the operations from a cursor on, in a table without rows: where its rows are at the end.
 pub fn settle_steps(
     set: &[u8],
     edition: ProjectionPatchEdition,
     from: SetCursor,
     table: &mut [u8],
-) -> SetSettling
+) -> Result<SettledPlaces, SettlingStop>
     ensures { (ps : List Patch) → length set.now ≤ set_bytes → AtSteps (edition_of edition) set.now from [] ps → SettledIn no_places table.old []
         → SetSettlesTo (settle_patches 0 ps []) result table.new }
 {
@@ -42,33 +50,27 @@ pub fn settle_steps(
     let mut patch: usize = 0;
     let mut index: usize = 0;
     loop {
-        match patch_walk::next_step(set, cursor, false, edition) {
-            Ok(SetStep::Head(_, next)) => {
+        let step = patch_walk::next_step(set, cursor, false, edition)?;
+        match step {
+            SetStep::Head(_, next) => {
                 patch = opened;
-                opened = opened + 1;
+                opened += 1;
                 index = 0;
                 cursor = next;
             }
-            Ok(SetStep::Operation(operation, next)) => {
-                match settling::settle_operation(table, places, operation) {
-                    Settling::Settled(more) => {
-                        places = more;
-                        index = index + 1;
-                        cursor = next;
-                    }
-                    Settling::Contradiction => {
-                        return SetSettling::Contradiction {
-                            patch,
-                            operation: index,
-                        };
-                    }
-                }
+            SetStep::Operation(operation, next) => {
+                let Some(more) = settling::settle_operation(table, places, operation) else {
+                    return Err(SettlingStop::Contradiction {
+                        patch,
+                        operation: index,
+                    });
+                };
+                places = more;
+                index += 1;
+                cursor = next;
             }
-            Ok(SetStep::End) => {
-                return SetSettling::Settled(places);
-            }
-            Err(fault) => {
-                return SetSettling::Unreadable(fault);
+            SetStep::End => {
+                return Ok(places);
             }
         }
     }

@@ -1,4 +1,6 @@
 -- `settle_operation` meets its contract, case by case: an operation's key, and a neighbour that it names.
+use Rattle.set_dependencies.specs.declared.settled_rows.SettledPlaces.{SettledPlaces}
+use Rattle.std.specs.Prelude as code
 use Prim.Native.Nat.{ℕ}
 use mathlib.Core.Path.{◌≡◌, sym, subst}
 use mathlib.Core.List.{List, []}
@@ -8,12 +10,11 @@ use Rattle.spec_dependencies.specs.Settled.{judge_all}
 use Rattle.projection_patch.specs.Meaning.{operation_of}
 use Rattle.projection_patch.specs.declared.patch.ProjectionPatchOperation.{ProjectionPatchOperation}
 use Rattle.set_dependencies.specs.Settling.{Judges}
-use Rattle.set_dependencies.specs.declared.settling.Settling.{Settling}
 use Rattle.set_dependencies.proofs.settling.settle_operation.Goals as goal
 use Rattle.set_dependencies.proofs.settling.settle_operation.Goals.{Start}
 
 -- the contract, by what the operation is
-by-case : (k : Start) {o : ProjectionPatchOperation} → k.args.operation ≡ o → (r : Settling) (exit : List ℕ)
+by-case : (k : Start) {o : ProjectionPatchOperation} → k.args.operation ≡ o → (r : code.Option SettledPlaces) (exit : List ℕ)
     → Judges k.args.places k.args.table.now exit r (expectations (operation_of [] o)) → Judges k.args.places k.args.table.now exit r (expectations (operation_of [] k.args.operation))
 by-case k is r exit = subst (λ o. Judges k.args.places k.args.table.now exit r (expectations (operation_of [] o))) (sym is)
 
