@@ -1,6 +1,6 @@
 -- The library's search for an LF finds the end of the first line.
-use Rattle.std.specs.Prelude.{ℕ, suc, ◌+◌, ◌-◌, ◌≤◌, ◌≡◌, refl, Bool, true, false, List, [], ◌∷◌, eqb, nat_lt, not, length, drop, Option, Some, None, ◌==◌}
-use Rattle.std.proofs.Common.{Bor, sym, ap, ◌∙◌, arith, take_all, length-drop, drop_of_length-le}
+use Rattle.std.specs.Prelude.{ℕ, ◌-◌, ◌≡◌, refl, Bool, true, false, List, [], eqb, nat_lt, not, length, drop, Option, Some, None, ◌==◌}
+use Rattle.std.proofs.Common.{Bor, sym, ◌∙◌, arith, take_all, length-drop, drop_of_length-le}
 use Rattle.std.specs.Option.{unwrap_or}
 use Rattle.std.specs.List.{position, position_or_len}
 use Rattle.std.specs.Slice.{IsGetRangeResult}
@@ -8,7 +8,7 @@ use Rattle.std.proofs.lemmas.List.Recursion.{is_position_or_len}
 use Rattle.std.proofs.lemmas.List.Sums.{prefix_len-le-length}
 use borrow.Author.Tests.{ltb-false}
 use Rattle.spec_lists.proofs.ListLaws.{test_cases}
-use Rattle.spec_replay.specs.Lines.{newline, prepend, split}
+use Rattle.spec_replay.specs.Lines.{newline, split}
 use Rattle.script_reader.specs.Lines.{first_part, first_script_line}
 use Rattle.script_reader.specs.LineLaws.{first_prepend}
 
