@@ -13,7 +13,7 @@ use Rattle.spec_patch.specs.Reader.{Fault}
 use Rattle.spec_patch.specs.Read.{SetReading, patches, fault, read_set}
 use Rattle.spec_checks.specs.Findings.{findings}
 use Rattle.spec_projection.specs.Apply.{operations_of}
-use Rattle.spec_session.specs.Session.{Session}
+use Rattle.spec_session.specs.Session.{Cursor, Limits, Session}
 use Rattle.spec_session.specs.Diagnostics.{SessionRefusal, session_mismatch, session_closed, limit_exceeded, counts_differ, cursor_mismatch, checks_failed, of_reading}
 use Rattle.spec_session.specs.Lifecycle.{is_closed}
 use Rattle.spec_session.specs.Batch.{BatchEnvelope, Check, pass, refuse, ◌>>=◌, ◌>>◌, require, readable, absent_targets, known_targets, takes_number, batch_checks}
