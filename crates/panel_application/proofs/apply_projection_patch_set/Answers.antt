@@ -1,5 +1,6 @@
 -- `apply_projection_patch_set` meets its contract, by the quick check's answer.
-use mathlib.Core.Path.{refl}
+use Rattle.std.specs.Prelude.{Ok}
+use mathlib.Core.Path.{refl, ap, ◌∙◌}
 use borrow.Author.Rules.{rules}
 use Rattle.projection_patch.specs.Meaning.{edition_of}
 use Rattle.panel_application.specs.ApplicationLaws.{clean_became, found_became, refused_became}
@@ -9,14 +10,14 @@ pub returns-in-Ok-Clean : goal.returns-in-Ok-Clean
 returns-in-Ok-Clean c =
     record {
       applied = (λ p s.
-          clean_became p (edition_of c.args.edition) c.args.set.now c.quick_check.result c.quick_check.ensures c.apply_readable.result.state _ _ c.in-Ok-Clean.is c.apply_readable.result.outcome
+          clean_became p (edition_of c.args.edition) c.args.set.now c.quick_check.result c.quick_check.ensures c.apply_readable.result.state _ _ (c.in-Ok-Clean.is ∙ ap Ok c.in-Ok-Clean.field-0-is) c.apply_readable.result.outcome
           (λ ps readable. c.apply_readable.ensures.steps ps p readable s));
       kept = c.apply_readable.ensures.kept;
     }
 
 pub returns-in-Ok-Found : goal.returns-in-Ok-Found
 returns-in-Ok-Found c =
-    record { applied = (λ p s. found_became p (edition_of c.args.edition) c.args.set.now c.quick_check.result c.quick_check.ensures c.args.state c.in-Ok-Found.is); kept = refl }
+    record { applied = (λ p s. found_became p (edition_of c.args.edition) c.args.set.now c.quick_check.result c.quick_check.ensures c.args.state (c.in-Ok-Found.is ∙ ap Ok c.in-Ok-Found.field-0-is)); kept = refl }
 
 pub returns-in-Err : goal.returns-in-Err
 returns-in-Err c =
