@@ -7,8 +7,9 @@ use Rattle.spec_projection.specs.Apply.{replay_steps, apply_steps}
 use Rattle.session_lent.specs.Head.{moved_head}
 use Rattle.local_projection_state.specs.Stores.{StoredTables}
 use Rattle.local_projection_state.specs.declared.ProjectionCounts.{ProjectionCounts}
-use Rattle.panel_changes.specs.SetChanges.{ReadyTables, StoredAfter}
-use Rattle.session_steps.proofs.Stops.{refused_stopped}
+use Rattle.panel_changes.specs.SetChanges.{ReadyTables, StoredAfter, ChangeBecame, TablesKeptUnlessApplied}
+use Rattle.panel_changes.specs.declared.SetRefusal.{SetRefusal}
+use Rattle.std.specs.Prelude.{Result, Err}
 use Rattle.session_lent.specs.BatchesLaws.{stopped_became, stopped_kept, applied_became}
 use borrow.Author.Rules.{rules}
 use Rattle.session_lent.proofs.batch.commit.Goals as goal
@@ -21,11 +22,17 @@ ready {b = b} {a = a} {e = e} {l = l} n is = subst (λ (x : ProjectionCounts). R
 
 pub returns-in-Err : goal.returns-in-Err
 returns-in-Err c =
-    let stop = refused_stopped c.apply_set_with_plan-change.result c.in-Err.is in record {
+    let to_b = c.apply_set_with_plan-change.new.to_bindings in
+    let to_a = c.apply_set_with_plan-change.new.to_availability in
+    let to_e = c.apply_set_with_plan-change.new.to_entries in
+    let to_l = c.apply_set_with_plan-change.new.to_lengths in
+    record {
       changed = λ p ps st reads room clear.
-          stopped_became (λ n q. StoredAfter n c.apply_set_with_plan-change.new.to_bindings c.apply_set_with_plan-change.new.to_availability c.apply_set_with_plan-change.new.to_entries c.apply_set_with_plan-change.new.to_lengths q) (λ n q. (c.args.to_head.now ≡ moved_head c.args.head.now c.args.sequence_no n) × StoredAfter n c.apply_set_with_plan-change.new.to_bindings c.apply_set_with_plan-change.new.to_availability c.apply_set_with_plan-change.new.to_entries c.apply_set_with_plan-change.new.to_lengths q) c.apply_set_with_plan-change.result (apply_steps p (replay_steps ps)) stop
-          (c.apply_set_with_plan-change.ensures.changed p ps (stored _ c.counts_in-counts.ensures st) reads (ready _ c.counts_in-used.ensures room.tables) clear);
-      kept = stopped_kept c.apply_set_with_plan-change.result c.args.to_head.now c.args.to_bindings.now c.args.to_availability.now c.args.to_entries.now c.args.to_lengths.now c.apply_set_with_plan-change.new.to_bindings c.apply_set_with_plan-change.new.to_availability c.apply_set_with_plan-change.new.to_entries c.apply_set_with_plan-change.new.to_lengths stop c.apply_set_with_plan-change.ensures.kept;
+          stopped_became (λ n q. StoredAfter n to_b to_a to_e to_l q) (λ n q. (c.args.to_head.now ≡ moved_head c.args.head.now c.args.sequence_no n) × StoredAfter n to_b to_a to_e to_l q) (Err c.in-Err.refused) (apply_steps p (replay_steps ps)) tt
+          (subst (λ (u : Result ProjectionCounts SetRefusal). ChangeBecame (λ n q. StoredAfter n to_b to_a to_e to_l q) u (apply_steps p (replay_steps ps))) c.in-Err.is
+          (c.apply_set_with_plan-change.ensures.changed p ps (stored _ c.counts_in-counts.ensures st) reads (ready _ c.counts_in-used.ensures room.tables) clear));
+      kept = stopped_kept (Err c.in-Err.refused) c.args.to_head.now c.args.to_bindings.now c.args.to_availability.now c.args.to_entries.now c.args.to_lengths.now to_b to_a to_e to_l tt
+          (subst (λ (u : Result ProjectionCounts SetRefusal). TablesKeptUnlessApplied u c.args.to_bindings.now c.args.to_availability.now c.args.to_entries.now c.args.to_lengths.now to_b to_a to_e to_l) c.in-Err.is c.apply_set_with_plan-change.ensures.kept);
       cleared = λ p ps st. c.apply_set_with_plan-change.ensures.cleared p ps (stored _ c.counts_in-counts.ensures st);
     }
 
