@@ -1,5 +1,5 @@
 -- What the call that explains a batch answers, as numbers: the rule has 01's number and one of its own, from 1 to 31 in the order of the words below.
-use Rattle.std.specs.Prelude.{Option, Some, None}
+use Rattle.std.specs.Prelude as code
 use Rattle.std.specs.Prelude.{ℕ, ◌-◌, ◌≡◌, refl, List, [], ◌∷◌, get_or}
 use Rattle.std.proofs.Math.Option.{Option, none, some}
 use Rattle.spec_listing.specs.Ascii.{ascii}
@@ -160,9 +160,9 @@ explanation_told explaining.no_reason = not_explained 0
 explanation_told explaining.withheld = not_explained 2
 explanation_told (explaining.given r) = record { disposition = 2; number = reason_number r; rule = rule_number r; place = rule_place r; figures = rule_figures r }
 
-abbrev pub lent_explanation_told : Option BatchExplanation → GeysertrayExplanation
-lent_explanation_told (Some x) = explanation_told (explanation_of x)
-lent_explanation_told None = not_explained 3
+abbrev pub lent_explanation_told : code.Option BatchExplanation → GeysertrayExplanation
+lent_explanation_told (code.Some x) = explanation_told (explanation_of x)
+lent_explanation_told code.None = not_explained 3
 
 -- ---- the number of a rule tells its word
 
