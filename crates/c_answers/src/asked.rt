@@ -37,7 +37,10 @@ pub fn edition_of(edition: u64) -> ProjectionPatchEdition
 pub fn is_edition(edition: u64) -> bool
     ensures { result ≡ is_edition edition }
 {
-    matches!(edition, 1 | 2)
+    if edition == 1 {
+        return true;
+    }
+    edition == 2
 }
 
 // The surface of a patch, if the first number is not 0.
