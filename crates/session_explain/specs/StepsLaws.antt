@@ -100,7 +100,7 @@ first_written : (f : Finding) (fs : List Finding) → write_findings (f ∷ fs) 
 unfolding write_findings fitting finding_words finding_key flat_map
 first_written f fs = refl
 
-module _ (ps : List Patch) {c : PatchSetCheck} (told : Ok {E = ProjectionPatchReadFault} c ≡ Ok (checked_to (checked_list ps 3))) where
+module _ (ps : List Patch) {c : PatchSetCheck} (told : ◌≡◌ {A = Result PatchSetCheck ProjectionPatchReadFault} (Ok c) (Ok (checked_to (checked_list ps 3)))) where
   same_check : c ≡ checked_to (checked_list ps 3)
   same_check = cc
 
@@ -129,7 +129,7 @@ module _ (ps : List Patch) {c : PatchSetCheck} (told : Ok {E = ProjectionPatchRe
       go [] e h = absurd (some_found e)
       go (f ∷ fs) e h = rw (placed, e, h, first_written f fs)
 
-pub findings_unread : (ps : List Patch) {f : ProjectionPatchReadFault} {r : Result (Unit {0}) BatchReason} → Err f ≡ Ok {E = ProjectionPatchReadFault} (checked_to (checked_list ps 3)) → r ≡ step_to (no_findings (findings ps).place (findings ps).found)
+pub findings_unread : (ps : List Patch) {f : ProjectionPatchReadFault} {r : Result (Unit {0}) BatchReason} → ◌≡◌ {A = Result PatchSetCheck ProjectionPatchReadFault} (Err f) (Ok (checked_to (checked_list ps 3))) → r ≡ step_to (no_findings (findings ps).place (findings ps).found)
 findings_unread ps h = absurd (let z : ◌≡◌ {A = ℕ} 0 1 = cc in omega arith)
 
 -- ---- the cursor

@@ -83,16 +83,17 @@ fn explain_set(
     ensures { (c : Catalogue) → Lent c nodes.now bindings.now collections.now
         → result ≡ step_to (set_by (edition_of edition) c (limits_of limits) (cursor_of cursor) (batch_envelope_of envelope) declared set.now) }
 {
-    match inspection::inspect_set(set, edition, nodes, bindings, collections) {
-        Err(_) => reading::explain_check(set, edition),
-        Ok(SetInspection::Found) => reading::explain_findings(set, edition),
-        Ok(
-            SetInspection::Clean {
-                patch_count,
-                operation_count,
-                absent,
-            },
-        ) => explain_clean(
+    let inspected = inspection::inspect_set(set, edition, nodes, bindings, collections);
+    let Ok(readable) = inspected else {
+        return reading::explain_check(set, edition);
+    };
+    match readable {
+        SetInspection::Found => reading::explain_findings(set, edition),
+        SetInspection::Clean {
+            patch_count,
+            operation_count,
+            absent,
+        } => explain_clean(
             limits,
             cursor,
             nodes,

@@ -37,38 +37,38 @@ pub loop-next-init : goal.loop-next-init
 loop-next-init c = (omega arith, (omega arith, λ k ps lent here. walk_start _ _ _ _ ps tt here refl))
 
 pub overflow_add-opened : goal.overflow_add-opened
-overflow_add-opened c = let on = within (goal.at.overflow_add-opened c).After-next_step _ (c.in_ok-next_step.was ∙ ap code.Ok c.in-Head.is) in omega (arith, on.0, on.1)
+overflow_add-opened c = let on = within (goal.at.overflow_add-opened c).After-next_step _ (c.in_ok-next.was ∙ ap code.Ok c.in-Head.is) in omega (arith, on.0, on.1)
 
 pub loop-next-smaller-in-Head : goal.loop-next-smaller-in-Head
-loop-next-smaller-in-Head c = let on = within (goal.at.loop-next-smaller-in-Head c).After-next_step _ (c.in_ok-next_step.was ∙ ap code.Ok c.in-Head.is) in omega (arith, on.0, on.1)
+loop-next-smaller-in-Head c = let on = within (goal.at.loop-next-smaller-in-Head c).After-next_step _ (c.in_ok-next.was ∙ ap code.Ok c.in-Head.is) in omega (arith, on.0, on.1)
 
 pub loop-next-preserved-in-Head : goal.loop-next-preserved-in-Head
 loop-next-preserved-in-Head c =
-    let on = within (goal.at.loop-next-preserved-in-Head c).After-next_step _ (c.in_ok-next_step.was ∙ ap code.Ok c.in-Head.is) in (
+    let on = within (goal.at.loop-next-preserved-in-Head c).After-next_step _ (c.in_ok-next.was ∙ ap code.Ok c.in-Head.is) in (
       omega (arith, on.0),
       (
         omega arith,
         λ cat ps lent here.
             let w = c.loop-next.invariant.1.1 cat ps lent here in
-            walk_head _ (told (goal.at.loop-next-preserved-in-Head c).After-next_step) (set (goal.at.loop-next-preserved-in-Head c).After-next_step) _ w (opened false (told (goal.at.loop-next-preserved-in-Head c).After-next_step) (set (goal.at.loop-next-preserved-in-Head c).After-next_step) c.loop-next.cursor w.here c.next_step.ensures.is _ _ (c.in_ok-next_step.was ∙ ap code.Ok c.in-Head.is)),
+            walk_head _ (told (goal.at.loop-next-preserved-in-Head c).After-next_step) (set (goal.at.loop-next-preserved-in-Head c).After-next_step) _ w (opened false (told (goal.at.loop-next-preserved-in-Head c).After-next_step) (set (goal.at.loop-next-preserved-in-Head c).After-next_step) c.loop-next.cursor w.here c.next_step.ensures.is _ _ (c.in_ok-next.was ∙ ap code.Ok c.in-Head.is)),
       ),
     )
 
 pub overflow_add-index : goal.overflow_add-index
-overflow_add-index c = let on = within (goal.at.overflow_add-index c).After-next_step _ (c.in_ok-next_step.was ∙ ap code.Ok c.in-Operation.is) in omega (arith, on.0, on.1)
+overflow_add-index c = let on = within (goal.at.overflow_add-index c).After-next_step _ (c.in_ok-next.was ∙ ap code.Ok c.in-Operation.is) in omega (arith, on.0, on.1)
 
 pub loop-next-smaller : goal.loop-next-smaller
-loop-next-smaller c = let on = within (goal.at.loop-next-smaller c).After-next_step _ (c.in_ok-next_step.was ∙ ap code.Ok c.in-Operation.is) in omega (arith, on.0, on.1)
+loop-next-smaller c = let on = within (goal.at.loop-next-smaller c).After-next_step _ (c.in_ok-next.was ∙ ap code.Ok c.in-Operation.is) in omega (arith, on.0, on.1)
 
 pub loop-next-preserved : goal.loop-next-preserved
 loop-next-preserved c =
-    let on = within (goal.at.loop-next-preserved c).After-next_step _ (c.in_ok-next_step.was ∙ ap code.Ok c.in-Operation.is) in (
+    let on = within (goal.at.loop-next-preserved c).After-next_step _ (c.in_ok-next.was ∙ ap code.Ok c.in-Operation.is) in (
       omega (arith, on.0),
       (
         omega (arith, on.0),
         λ cat ps lent here.
             let w = c.loop-next.invariant.1.1 cat ps lent here in
-            let v = visited false (told (goal.at.loop-next-preserved c).After-next_step) (set (goal.at.loop-next-preserved c).After-next_step) c.loop-next.cursor w.here c.next_step.ensures.is _ _ (c.in_ok-next_step.was ∙ ap code.Ok c.in-Operation.is) in
+            let v = visited false (told (goal.at.loop-next-preserved c).After-next_step) (set (goal.at.loop-next-preserved c).After-next_step) c.loop-next.cursor w.here c.next_step.ensures.is _ _ (c.in_ok-next.was ∙ ap code.Ok c.in-Operation.is) in
             walk_on_lem _ (told (goal.at.loop-next-preserved c).After-next_step) (set (goal.at.loop-next-preserved c).After-next_step) _ w v tt
             (step_on (target_known cat) _ v.first (sym (ap (target_known cat) v.means) ∙ sym (c.target_known.ensures cat (lent_from (set (goal.at.loop-next-preserved c).After-next_step) c.loop-next.cursor.at) lent) ∙ c.if-not-target_known.false)),
       ),
@@ -78,7 +78,7 @@ pub returns-then-not-target_known : goal.returns-then-not-target_known
 returns-then-not-target_known c =
     λ cat ps lent here.
     let w = c.loop-next.invariant.1.1 cat ps lent here in
-    let v = visited false (told (goal.at.returns-then-not-target_known c).After-next_step) (set (goal.at.returns-then-not-target_known c).After-next_step) c.loop-next.cursor w.here c.next_step.ensures.is _ _ (c.in_ok-next_step.was ∙ ap code.Ok c.in-Operation.is) in
+    let v = visited false (told (goal.at.returns-then-not-target_known c).After-next_step) (set (goal.at.returns-then-not-target_known c).After-next_step) c.loop-next.cursor w.here c.next_step.ensures.is _ _ (c.in_ok-next.was ∙ ap code.Ok c.in-Operation.is) in
     sym (ap unknown_to (walk_halts _ (told (goal.at.returns-then-not-target_known c).After-next_step) (set (goal.at.returns-then-not-target_known c).After-next_step) _ w v
     (step_halts (target_known cat) _ v.first (sym (ap (target_known cat) v.means) ∙ sym (c.target_known.ensures cat (lent_from (set (goal.at.returns-then-not-target_known c).After-next_step) c.loop-next.cursor.at) lent) ∙ c.if-not-target_known.true))))
 
@@ -86,10 +86,10 @@ pub returns-in-End : goal.returns-in-End
 returns-in-End c =
     λ cat ps lent here.
     let w = c.loop-next.invariant.1.1 cat ps lent here in
-    sym (ap unknown_to (walk_end _ (told (goal.at.returns-in-End c).After-next_step) (set (goal.at.returns-in-End c).After-next_step) _ w (done false (told (goal.at.returns-in-End c).After-next_step) (set (goal.at.returns-in-End c).After-next_step) c.loop-next.cursor w.here c.next_step.ensures.is (c.in_ok-next_step.was ∙ ap code.Ok c.in-End.is))))
+    sym (ap unknown_to (walk_end _ (told (goal.at.returns-in-End c).After-next_step) (set (goal.at.returns-in-End c).After-next_step) _ w (done false (told (goal.at.returns-in-End c).After-next_step) (set (goal.at.returns-in-End c).After-next_step) c.loop-next.cursor w.here c.next_step.ensures.is (c.in_ok-next.was ∙ ap code.Ok c.in-End.is))))
 
-pub returns-in_err-next_step : goal.returns-in_err-next_step
-returns-in_err-next_step c =
+pub returns-in_err-next : goal.returns-in_err-next
+returns-in_err-next c =
     λ cat ps lent here.
     let w = c.loop-next.invariant.1.1 cat ps lent here in
-    absurd (never_refused false (told (goal.at.returns-in_err-next_step c).After-next_step) (set (goal.at.returns-in_err-next_step c).After-next_step) c.loop-next.cursor w.here c.next_step.ensures.is _ c.in_err-next_step.was)
+    absurd (never_refused false (told (goal.at.returns-in_err-next c).After-next_step) (set (goal.at.returns-in_err-next c).After-next_step) c.loop-next.cursor w.here c.next_step.ensures.is _ c.in_err-next.was)
