@@ -1,5 +1,5 @@
 // A group by numbers: seven for each batch, and what its call answers.
-ghost use Rattle.std.specs.Prelude.{◌≡◌, ◌&&◌, min, length};
+ghost use Rattle.std.specs.Prelude.{◌≡◌, min, length};
 ghost use Rattle.spec_group.specs.Group.{group_batches};
 ghost use Rattle.session_lifecycle.specs.Meaning.{cursor_of};
 ghost use Rattle.session_group.specs.Groups.{batch_means, Names};
@@ -36,12 +36,6 @@ pub struct BatchesRead {
 pub const BATCH_NUMBERS: usize = 7;
 
 const NO_SESSION: u64 = 3;
-
-fn both(a: bool, b: bool) -> bool
-    ensures { result ≡ (a && b) }
-{
-    a && b
-}
 
 // The batch of seven numbers; its edition is the first or the second.
 fn batch_of(numbers: &[u64]) -> GroupBatch
@@ -83,13 +77,10 @@ fn no_batch() -> GroupBatch {
 fn places_used(count: usize) -> usize
     ensures { result ≡ min count group_batches }
 {
-    if count < GroupBatch::MOST {
-        return count;
-    }
-    GroupBatch::MOST
+    count.min(GroupBatch::MOST)
 }
 
-// Reads as many batches as a group can have. A loop by hand: with `for` and `&=` the proof didn't close.
+// Reads as many batches as a group can have.
 pub fn read_batches(numbers: &[u64]) -> BatchesRead
     ensures known { result.known ≡ editions_known numbers.now (min (batch_count numbers.now) group_batches) }
     ensures named { Names (batch_count numbers.now) result.batches (batches_told numbers.now) }
@@ -97,14 +88,12 @@ pub fn read_batches(numbers: &[u64]) -> BatchesRead
     let used = places_used(numbers.len() / BATCH_NUMBERS);
     let mut known = true;
     let mut batches = [no_batch(); GroupBatch::MOST];
-    let mut place: usize = 0;
-    while place < used {
+    for place in 0..used {
         let from = place * BATCH_NUMBERS;
         let end = from + BATCH_NUMBERS;
         let at = from + 5;
-        known = both(known, asked::is_edition(numbers[at]));
+        known &= asked::is_edition(numbers[at]);
         batches[place] = batch_of(&numbers[from..end]);
-        place += 1;
     }
     BatchesRead { known, batches }
 }

@@ -31,7 +31,7 @@ places k = subst (λ (n : ℕ). n ≤ group_batches) (sym (used-is k)) (min-le_r
 room : (k : In-loop-place) → k.loop-place.place * batch_numbers + batch_numbers ≤ length (numbersIn (goal.at.In-loop-place k).At-loop-place)
 room k =
     let some = subst (λ (n : ℕ). n ≤ batch_count (numbersIn (goal.at.In-loop-place k).At-loop-place)) (sym (used-is (goal.at.In-loop-place k).At-loop-place)) (min-le_left (batch_count (numbersIn (goal.at.In-loop-place k).At-loop-place)) group_batches) in
-    omega (arith, some, k.loop-place-test.true)
+    omega (arith, some)
 
 -- the numbers of a place are seven
 size : (i : ℕ) → (i * batch_numbers + batch_numbers) - i * batch_numbers ≡ batch_numbers
@@ -74,21 +74,18 @@ batch_of-requires c = seven (numbersIn (goal.at.batch_of-requires c).At-loop-pla
 pub bounds-batches-place : goal.bounds-batches-place
 bounds-batches-place c = let few = places (goal.at.bounds-batches-place c).At-loop-place in search (rules, few)
 
-pub overflow_add-place : goal.overflow_add-place
-overflow_add-place c = let few = places (goal.at.overflow_add-place c).At-loop-place in record { fits = omega (arith, few, c.loop-place-test.true) }
-
 pub loop-place-preserved : goal.loop-place-preserved
 loop-place-preserved c =
     let numbers = numbersIn (goal.at.loop-place-preserved c).At-loop-place in
     let few = places (goal.at.loop-place-preserved c).At-loop-place in (
-      omega (arith, c.loop-place-test.true),
-      batches_turn numbers c.loop-place.invariant.1 (omega (arith, c.loop-place-test.true, few)) c.batch_of.result
+      omega arith,
+      batches_turn numbers c.loop-place.invariant.1 (omega (arith, few)) c.batch_of.result
           (c.batch_of.ensures ∙ ap (λ (n : ℕ). batch_of_numbers (take n (drop (c.loop-place.place * batch_numbers) numbers))) (size c.loop-place.place))
-          c.both-known.result
-          (c.both-known.ensures ∙ ap (λ (t : Bool). c.loop-place.known && t) (c.is_edition.ensures ∙ ap is_edition (sixth numbers c.loop-place.place))),
+          (c.loop-place.known && c.is_edition-known.result)
+          (ap (λ (t : Bool). c.loop-place.known && t) (c.is_edition-known.ensures ∙ ap is_edition (sixth numbers c.loop-place.place))),
     )
 
 pub returns : goal.returns
 returns c =
-    let all : c.loop-place.place ≡ usedIn (goal.at.returns c).At-loop-place = omega (arith, c.loop-place-test.false, c.loop-place.invariant.0) in
+    let all : c.loop-place.place ≡ usedIn (goal.at.returns c).At-loop-place = omega (arith, c.loop-place.invariant.0) in
     record { known = c.loop-place.invariant.1.editions ∙ ap (editions_known (numbersIn (goal.at.returns c).At-loop-place)) (all ∙ used-is (goal.at.returns c).At-loop-place); named = batches_named (numbersIn (goal.at.returns c).At-loop-place) (batch_count (numbersIn (goal.at.returns c).At-loop-place)) c.loop-place.invariant.1 (all ∙ used-is (goal.at.returns c).At-loop-place) }

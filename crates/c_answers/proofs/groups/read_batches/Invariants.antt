@@ -15,6 +15,3 @@ use Rattle.c_answers.proofs.groups.read_batches.Given as goal
 
 abbrev pub invariant-loop-place : goal.invariant-loop-place
 invariant-loop-place l = (l.place ≤ l.used) × BatchesUpTo l.numbers l.known l.batches l.place
-
-abbrev pub decreases-loop-place : goal.decreases-loop-place
-decreases-loop-place l = l.used - l.place
