@@ -86,11 +86,6 @@ negative_tried n m less (code.Ok x) t z e =
 
 -- ---- the sign of a text
 
-pub signed_empty : (text : List ℕ) → length text ≡ 0 → read_signed_decimal text ≡ none
-unfolding read_signed_decimal
-signed_empty [] h = refl
-signed_empty (b ∷ bs) h = absurd (omega arith)
-
 pub signed_minus : (text : List ℕ) → (length text ≡ 0 → ⊥) → get_or text 0 0 ≡ 45 → read_signed_decimal text ≡ negative (read_decimal (drop 1 text))
 unfolding read_signed_decimal
 signed_minus [] h e = absurd (h refl)

@@ -1,5 +1,4 @@
 pub mod Parts
-pub mod Turns
 pub mod Numbers
 pub mod Orders
 pub mod Offsets

@@ -3,46 +3,39 @@ ghost use Rattle.std.specs.Prelude.{[], ◌∷◌, ◌≡◌, ◌+◌, ◌≤◌
 ghost use Rattle.spec_lists.specs.Bytes.{number_of};
 ghost use Rattle.bytes_records.specs.Keys.{leading_numbers, order_of};
 
+use crate::moves;
 use std::cmp::Ordering;
 
-fn wide(x: u8) -> u64
-    ensures { result ≡ x }
-{
-    x as u64
-}
-
-// The number that at most four bytes spell.
-fn half_number(part: &[u8]) -> u64
-    requires { length part.now ≤ 4 }
-    ensures { result ≡ number_of part.now }
-{
-    let mut x: u64 = 0;
-    let mut i = part.len();
-    while 0 < i {
-        i -= 1;
-        x = x * 256 + wide(part[i]);
-    }
-    x
-}
-
-// The number that at most eight bytes spell, read in halves: the compiler makes one load of them.
+// The number that at most eight bytes spell.
 pub fn number_of(part: &[u8]) -> u64
     requires { length part.now ≤ 8 }
     ensures { result ≡ number_of part.now }
 {
-    if part.len() <= 4 {
-        return half_number(part);
-    }
-    half_number(&part[..4]) + half_number(&part[4..]) * 0x1_0000_0000
+    let mut bytes = [0u8; 8];
+    moves::copy(part, &mut bytes);
+    u64::from_le_bytes(bytes)
 }
 
-// How the two numbers that row begins with stand to id and second: eight bytes, and so many behind them.
+// How the two numbers that row begins with stand to id and second: eight bytes, and so many behind them. The library's `cmp` was tried: a search
+// that goes by its answers took 1.4 times as long.
 pub fn compare(row: &[u8], id: u64, size: usize, second: u64) -> Ordering
     requires { (size ≤ 8) × (8 + size ≤ length row.now) }
     ensures { result ≡ order_of (leading_numbers (8 ∷ size ∷ []) row.now) (id ∷ second ∷ []) }
 {
-    match number_of(&row[..8]).cmp(&id) {
-        Ordering::Equal => number_of(&row[8..8 + size]).cmp(&second),
-        unequal => unequal,
+    let own = number_of(&row[..8]);
+    if own < id {
+        return Ordering::Less;
     }
+    if id < own {
+        return Ordering::Greater;
+    }
+    let end = 8 + size;
+    let behind = number_of(&row[8..end]);
+    if behind < second {
+        return Ordering::Less;
+    }
+    if second < behind {
+        return Ordering::Greater;
+    }
+    Ordering::Equal
 }

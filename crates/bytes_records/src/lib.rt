@@ -1,5 +1,6 @@
 // Tables of fixed-width records in one lent byte slice, changed in place. A contract speaks of the rows that the table
-// holds, whichever these are (`Holds`). Nothing is asked of a count or a position: a call that does not fit is refused.
+// holds, whichever these are (`HoldsRows`). Nothing is asked of a count or a position: a call that does not fit is refused.
+// The bytes are lent, with the count beside them, and no `Vec` of rows: the engine uses no heap, and C lends its memory as bytes.
 #![tactic(auto)]
 
 ghost use Rattle.std.specs.Prelude.{List, [], ◌∷◌, ◌≡◌, ℕ, ◌+◌, ◌-◌, ◌*◌, ◌≤◌, ◌<◌, length, get_or};
@@ -140,6 +141,7 @@ pub fn find_above(table: &[u8], width: usize, count: usize, id: u64) -> usize
     if table.len() / width < count {
         return count;
     }
+    // the rows are no slice of their own, of which the library's `partition_point` could halve
     let mut low = 0;
     let mut high = count;
     while low < high {

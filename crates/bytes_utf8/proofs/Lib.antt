@@ -3,4 +3,3 @@ pub mod TableLaws
 pub mod CharacterLaws
 pub mod AsciiLaws
 pub mod Reached
-pub mod Answers

@@ -105,7 +105,8 @@ fn head_step(set: &[u8], cursor: SetCursor) -> Result<SetStep, ProjectionPatchRe
     Ok(SetStep::Head(head, next))
 }
 
-// What stands at a cursor. Texts are checked where the walk is strict.
+// What stands at a cursor. Texts are checked where the walk is strict. The set, strictness and edition stay apart from the cursor, which callers keep
+// by value without a borrow of the set.
 #[tactic(auto, unfolding(crate::specs::Steps::step_answer))]
 pub fn next_step(
     set: &[u8],

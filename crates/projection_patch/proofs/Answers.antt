@@ -5,6 +5,8 @@ use mathlib.Core.List.{List, [], ◌∷◌}
 use native.Mathlib.Omega.{arith}
 use lib.ListN.{length, drop, length-append}
 use Rattle.std.specs.Prelude as code
+use Rattle.std.specs.Result.{IsErrAnd}
+use Rattle.std.proofs.lemmas.Result.{err_from_is_err_and}
 use Rattle.spec_lists.specs.Bytes.{Bytes}
 use Rattle.spec_patch.specs.Reader.{Fault, Result, read, refused, Reader, onward, followed, pair, byte}
 use Rattle.spec_patch.specs.Read.{read_u64}
@@ -50,6 +52,21 @@ module _ {A X : Type 0} {e : A → List ℕ} {Good : A → Type 0} {p : Reader A
       pick : (s : Result A) → p (drop at l) ≡ s → answer to (length l) s ≡ code.Err f → NotGot p l at f
       pick (refused c) is t = record { fault = c; is = is; same = cc t }
       pick (read a rest) is t = absurd (let z : ◌≡◌ {A = ℕ} 0 1 = cc t in omega arith)
+
+-- a refusal that `?` hands on: the fault behind it
+pub record HandedOn {A Y : Type 0} (p : Reader A) (l : List ℕ) (at : ℕ) (out : code.Result Y ProjectionPatchReadFault) : Type 0 where
+  pub fault : Fault
+  pub is : p (drop at l) ≡ refused fault
+  pub told : out ≡ code.Err (fault_to fault)
+
+hand_on : {A Y : Type 0} {p : Reader A} {l : List ℕ} {at : ℕ} {f : ProjectionPatchReadFault} {out : code.Result Y ProjectionPatchReadFault} → NotGot p l at f → IsErrAnd out (λ g. g ≡ f) → HandedOn p l at out
+hand_on {out = out} g exit =
+    let q = err_from_is_err_and out exit in
+    record { fault = g.fault; is = g.is; told = q.1 ∙ ap code.Err (q.2 ∙ sym g.same) }
+
+pub handed_on : {A X Y : Type 0} {e : A → List ℕ} {Good : A → Type 0} {p : Reader A} (to : ℕ → A → X) (codec : Codec e Good p) (l : List ℕ) (at : ℕ) (r : code.Result (X × ℕ) ProjectionPatchReadFault)
+    → r ≡ answer to (length l) (p (drop at l)) → (f : ProjectionPatchReadFault) → r ≡ code.Err f → {out : code.Result Y ProjectionPatchReadFault} → IsErrAnd out (λ g. g ≡ f) → HandedOn p l at out
+handed_on to codec l at r ensured f was exit = hand_on (not_got to codec l at r ensured f was) exit
 
 -- what was read takes a byte or more, and ends within the part
 module _ {A X : Type 0} {e : A → List ℕ} {Good : A → Type 0} {p : Reader A} {to : ℕ → A → X} (codec : Codec e Good p) (some' : (a : A) → 0 < length (e a)) {l : List ℕ} (all : Bytes l) where
@@ -104,10 +121,13 @@ module _ (l : List ℕ) (at : ℕ) (r : code.Result ((ℕ × ℕ) × ℕ) Projec
       }
 
   -- where they are missing, whatever follows them
-  pub numbers_refused : (f : ProjectionPatchReadFault) → r ≡ code.Err f → {B : Type 0} (p : Reader B) → NotGot (pair read_u64 (pair read_u64 p)) l at f
+  numbers_refused : (f : ProjectionPatchReadFault) → r ≡ code.Err f → {B : Type 0} (p : Reader B) → NotGot (pair read_u64 (pair read_u64 p)) l at f
   numbers_refused f q p =
       let g = not_got plain (pair_codec u64_codec u64_codec) l at r ensured f q in
       record { fault = g.fault; is = missing p (read_u64 (drop at l)) g.is; same = g.same }
+
+  pub numbers_handed_on : {B Y : Type 0} (f : ProjectionPatchReadFault) → r ≡ code.Err f → (p : Reader B) → {out : code.Result Y ProjectionPatchReadFault} → IsErrAnd out (λ g. g ≡ f) → HandedOn (pair read_u64 (pair read_u64 p)) l at out
+  numbers_handed_on f q p exit = hand_on (numbers_refused f q p) exit
 
 -- one byte is followed by those behind it
 pub behind_byte : (l : List ℕ) (b : ℕ) (rest : List ℕ) → byte l ≡ read b rest → rest ≡ drop 1 l

@@ -1,4 +1,5 @@
-// Numbers with a type of their own. After crates/prom-ui/src/contract_primitives.rs; `new` takes every number, 0 too.
+// Numbers with a type of their own. After crates/prom-ui/src/contract_primitives.rs; `new` takes every number, 0 too. Each type is written out,
+// with the names that it has there: a type parameter would change them, and no macro of the repository's own writes an impl.
 ghost use Rattle.std.specs.Prelude.{◌≡◌};
 
 // A revision of a projection.

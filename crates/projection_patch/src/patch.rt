@@ -216,7 +216,7 @@ pub struct OperationPlace {
     pub operation: ProjectionPatchOperation,
 }
 
-// A patch list by value: the first patch_count heads, and the operations of all their patches in order. No set that can be written has more
+// A patch list by value, in fixed memory: the first patch_count heads, and the operations of all their patches in order. No set that can be written has more
 // operations than there are places.
 #[derive(Clone, Copy)]
 pub struct ProjectionPatchSet {

@@ -23,7 +23,7 @@ pub enum ProjectionPatchReadFault {
 }
 
 impl ProjectionPatchReadFault {
-    // The number of a refusal.
+    // The number of a refusal: 01's, which C and the lines of an answer give.
     #[tactic(auto, unfolding(spec_patch::specs::Reader::fault_number))]
     pub fn number(self) -> u64
         ensures { result ≡ fault_number (fault_of self) }
@@ -47,6 +47,7 @@ impl From<TextFault> for ProjectionPatchReadFault {
     }
 }
 
+// Four readers of a number alike: each names the width that its reader in bytes_wire has, and one for all would take both from the caller.
 pub fn byte_at(part: &[u8], at: usize) -> Result<(u8, usize), ProjectionPatchReadFault>
     ensures { result ≡ plain_answer (length part.now) (byte (drop at part.now)) }
 {

@@ -1,5 +1,5 @@
 -- `bytes_decimal::read_digits` meets its contract. The invariant: from the number so far, what is left of the text reads as the whole does.
-use mathlib.Core.Path.{refl, sym, ap, ◌∙◌}
+use mathlib.Core.Path.{sym, ap, ◌∙◌}
 use native.Mathlib.Omega.{arith}
 use Rattle.spec_lists.specs.Options.{optional_of}
 use Rattle.bytes_decimal.proofs.Reading.{next_digit, no_digit, last_digit}

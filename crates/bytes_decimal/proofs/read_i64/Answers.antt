@@ -1,5 +1,5 @@
 -- `bytes_decimal::read_i64` meets its contract: the first byte decides the sign, and the rest is read as a magnitude.
-use Rattle.std.proofs.Common.{rules, ℕ, List, ◌≡◌, ◌≤◌, ◌<◌, length, get_or, arith, sym, ap, ◌∙◌}
+use Rattle.std.proofs.Common.{rules, ◌≡◌, ◌≤◌, ◌<◌, length, get_or, arith, sym, ap, ◌∙◌}
 use Rattle.std.proofs.lemmas.List.{take_rest}
 use Rattle.spec_lists.specs.Options.{optional_of}
 use Rattle.spec_decimal.specs.Decimal.{read_decimal, positive, negative}

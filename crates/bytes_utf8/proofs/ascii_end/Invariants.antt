@@ -1,5 +1,3 @@
-use Prim.Native.Nat.{◌-◌}
-use lib.ListN.{length}
 use Rattle.bytes_utf8.specs.Characters.{AsciiBetween}
 use Rattle.bytes_utf8.proofs.ascii_end.Given as goal
 

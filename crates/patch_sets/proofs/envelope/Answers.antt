@@ -1,7 +1,6 @@
 -- `patch_sets::envelope` meets its contract: two ids, a document, a surface, two revisions, an epoch and a sequence.
 use Prim.Native.Nat.{ℕ}
 use mathlib.Core.Path.{◌≡◌, ap, ◌∙◌}
-use Rattle.std.proofs.lemmas.Result.{err_from_is_err_and}
 use Rattle.spec_lists.proofs.BytesLaws.{bytes_of}
 use Rattle.spec_lists.specs.Options.{optional_to}
 use Rattle.spec_patch.specs.Reader.{pair}
@@ -16,7 +15,7 @@ use Rattle.projection_patch.specs.declared.contract_primitives.Epoch.{Epoch}
 use Rattle.projection_patch.specs.declared.patch.ProjectionPatchId.{ProjectionPatchId}
 use Rattle.projection_patch.specs.declared.patch.ProjectionPatchStreamId.{ProjectionPatchStreamId}
 use Rattle.projection_patch.specs.declared.patch.ProjectionPatchSequence.{ProjectionPatchSequence}
-use Rattle.projection_patch.proofs.Answers.{got, not_got, plain_got, numbers_got, numbers_refused}
+use Rattle.projection_patch.proofs.Answers.{got, plain_got, numbers_got, handed_on, numbers_handed_on}
 use Rattle.projection_patch.proofs.Places.{optional_is}
 use Rattle.patch_sets.proofs.envelope.Goals as goal
 
@@ -41,18 +40,16 @@ sequence_is r n e = ap (λ (k : ℕ). record { 0 = k }) e
 pub returns-in_err-patch : goal.returns-in_err-patch
 unfolding read_envelope
 returns-in_err-patch c =
-    let g = numbers_refused c.args.part.now 0 c.numbers_at.result c.numbers_at.ensures c.in_err-patch.field-0.0 c.in_err-patch.was (pair read_u64 (pair read_optional (pair read_u64 (pair read_u64 (pair read_u64 read_u64))))) in
-    let q = err_from_is_err_and c.from_residual.result c.from_residual.ensures.1 in
-    rw (q.1, q.2, ← g.same, g.is)
+    let g = numbers_handed_on c.args.part.now 0 c.numbers_at.result c.numbers_at.ensures c.in_err-patch.field-0.0 c.in_err-patch.was (pair read_u64 (pair read_optional (pair read_u64 (pair read_u64 (pair read_u64 read_u64))))) c.from_residual.ensures.1 in
+    rw (g.told, g.is)
 
 pub returns-in_err-document : goal.returns-in_err-document
 unfolding read_envelope
 returns-in_err-document c =
     let all = bytes_of c.args.part.now (λ j. (c.type_inv.part j).fits) in
     let p = numbers_got c.args.part.now 0 c.numbers_at.result c.numbers_at.ensures all c.in_ok-patch.patch c.in_ok-patch.stream c.in_ok-patch.at c.in_ok-patch.was in
-    let g = not_got plain u64_codec c.args.part.now c.in_ok-patch.at c.u64_at.result c.u64_at.ensures c.in_err-document.field-0.0 c.in_err-document.was in
-    let q = err_from_is_err_and c.from_residual-in_err-document.result c.from_residual-in_err-document.ensures.1 in
-    rw (q.1, q.2, ← g.same, p.first, p.second, g.is)
+    let g = handed_on plain u64_codec c.args.part.now c.in_ok-patch.at c.u64_at.result c.u64_at.ensures c.in_err-document.field-0.0 c.in_err-document.was c.from_residual-in_err-document.ensures.1 in
+    rw (g.told, p.first, p.second, g.is)
 
 pub returns-in_err-surface : goal.returns-in_err-surface
 unfolding read_envelope
@@ -60,9 +57,8 @@ returns-in_err-surface c =
     let all = bytes_of c.args.part.now (λ j. (c.type_inv.part j).fits) in
     let p = numbers_got c.args.part.now 0 c.numbers_at.result c.numbers_at.ensures all c.in_ok-patch.patch c.in_ok-patch.stream c.in_ok-patch.at c.in_ok-patch.was in
     let d = plain_got u64_codec c.args.part.now c.in_ok-patch.at c.u64_at.result c.u64_at.ensures all c.in_ok-document.document c.in_ok-document.at c.in_ok-document.was in
-    let g = not_got (anywhere optional_to) optional_codec c.args.part.now c.in_ok-document.at c.optional_at.result c.optional_at.ensures c.in_err-surface.field-0.0 c.in_err-surface.was in
-    let q = err_from_is_err_and c.from_residual-in_err-surface.result c.from_residual-in_err-surface.ensures.1 in
-    rw (q.1, q.2, ← g.same, p.first, p.second, d.is, g.is)
+    let g = handed_on (anywhere optional_to) optional_codec c.args.part.now c.in_ok-document.at c.optional_at.result c.optional_at.ensures c.in_err-surface.field-0.0 c.in_err-surface.was c.from_residual-in_err-surface.ensures.1 in
+    rw (g.told, p.first, p.second, d.is, g.is)
 
 pub returns-in_err-previous : goal.returns-in_err-previous
 unfolding read_envelope
@@ -71,9 +67,8 @@ returns-in_err-previous c =
     let p = numbers_got c.args.part.now 0 c.numbers_at.result c.numbers_at.ensures all c.in_ok-patch.patch c.in_ok-patch.stream c.in_ok-patch.at c.in_ok-patch.was in
     let d = plain_got u64_codec c.args.part.now c.in_ok-patch.at c.u64_at.result c.u64_at.ensures all c.in_ok-document.document c.in_ok-document.at c.in_ok-document.was in
     let s = got (anywhere optional_to) optional_codec c.args.part.now c.in_ok-document.at c.optional_at.result c.optional_at.ensures all c.in_ok-surface.surface c.in_ok-surface.at c.in_ok-surface.was in
-    let g = numbers_refused c.args.part.now c.in_ok-surface.at c.numbers_at-2.result c.numbers_at-2.ensures c.in_err-previous.field-0.0 c.in_err-previous.was (pair read_u64 read_u64) in
-    let q = err_from_is_err_and c.from_residual-in_err-previous.result c.from_residual-in_err-previous.ensures.1 in
-    rw (q.1, q.2, ← g.same, p.first, p.second, d.is, s.is, g.is)
+    let g = numbers_handed_on c.args.part.now c.in_ok-surface.at c.numbers_at-2.result c.numbers_at-2.ensures c.in_err-previous.field-0.0 c.in_err-previous.was (pair read_u64 read_u64) c.from_residual-in_err-previous.ensures.1 in
+    rw (g.told, p.first, p.second, d.is, s.is, g.is)
 
 pub returns-in_err-epoch : goal.returns-in_err-epoch
 unfolding read_envelope
@@ -83,9 +78,8 @@ returns-in_err-epoch c =
     let d = plain_got u64_codec c.args.part.now c.in_ok-patch.at c.u64_at.result c.u64_at.ensures all c.in_ok-document.document c.in_ok-document.at c.in_ok-document.was in
     let s = got (anywhere optional_to) optional_codec c.args.part.now c.in_ok-document.at c.optional_at.result c.optional_at.ensures all c.in_ok-surface.surface c.in_ok-surface.at c.in_ok-surface.was in
     let v = numbers_got c.args.part.now c.in_ok-surface.at c.numbers_at-2.result c.numbers_at-2.ensures all c.in_ok-previous.previous c.in_ok-previous.revision c.in_ok-previous.at c.in_ok-previous.was in
-    let g = not_got plain (pair_codec u64_codec u64_codec) c.args.part.now c.in_ok-previous.at c.numbers_at-3.result c.numbers_at-3.ensures c.in_err-epoch.field-0.0 c.in_err-epoch.was in
-    let q = err_from_is_err_and c.from_residual-in_err-epoch.result c.from_residual-in_err-epoch.ensures.1 in
-    rw (q.1, q.2, ← g.same, p.first, p.second, d.is, s.is, v.first, v.second, g.is)
+    let g = handed_on plain (pair_codec u64_codec u64_codec) c.args.part.now c.in_ok-previous.at c.numbers_at-3.result c.numbers_at-3.ensures c.in_err-epoch.field-0.0 c.in_err-epoch.was c.from_residual-in_err-epoch.ensures.1 in
+    rw (g.told, p.first, p.second, d.is, s.is, v.first, v.second, g.is)
 
 pub returns : goal.returns
 unfolding read_envelope

@@ -1,13 +1,30 @@
--- `bytes_records::keys::compare` meets its contract: the first numbers decide, or else the second.
-use mathlib.Core.Path.{sym, ap, ◌∙◌}
-use Rattle.std.specs.Ordering.{nat_cmp}
-use Rattle.bytes_records.proofs.Orders.{row_unequal, row_equal}
+-- `bytes_records::keys::compare` meets its contract: each answer follows from the tests before it.
+use native.Mathlib.Omega.{arith}
+use lib.ListN.{length-take}
+use borrow.Author.Rules.{rules}
+use Rattle.bytes_records.proofs.Orders.{row_below, row_above, row_below_second, row_above_second, row_same}
 use Rattle.bytes_records.proofs.keys.compare.Goals as goal
 
-pub returns-in-Equal : goal.returns-in-Equal
-returns-in-Equal c =
-    c.cmp-in-Equal.ensures ∙ row_equal c.args.row.now c.args.size c.number_of.result c.args.id c.args.second c.number_of.ensures (sym c.cmp.ensures ∙ c.in-Equal.is) c.number_of-in-Equal.result c.number_of-in-Equal.ensures
+pub slice_bounds-number_of-end : goal.slice_bounds-number_of-end
+slice_bounds-number_of-end c = simp length-take (omega arith)
 
-pub returns-in_default : goal.returns-in_default
-returns-in_default c =
-    c.cmp.ensures ∙ row_unequal c.args.row.now c.args.size c.number_of.result c.args.id c.args.second c.number_of.ensures (λ e. c.in_default.not-Equal (c.cmp.ensures ∙ e))
+pub number_of-own-requires : goal.number_of-own-requires
+number_of-own-requires c = simp length-take (omega arith)
+
+pub returns-then-own-id : goal.returns-then-own-id
+returns-then-own-id c = row_below _ _ _ _ _ c.number_of-own.ensures (search rules)
+
+pub returns-then-id-own : goal.returns-then-id-own
+returns-then-id-own c = row_above _ _ _ _ _ c.number_of-own.ensures (search rules)
+
+pub returns-then-behind-second : goal.returns-then-behind-second
+returns-then-behind-second c =
+    row_below_second _ _ _ _ _ c.number_of-own.ensures _ c.number_of-behind.ensures (search rules) (search rules) (search rules)
+
+pub returns-then-second-behind : goal.returns-then-second-behind
+returns-then-second-behind c =
+    row_above_second _ _ _ _ _ c.number_of-own.ensures _ c.number_of-behind.ensures (search rules) (search rules) (search rules)
+
+pub returns : goal.returns
+returns c =
+    row_same _ _ _ _ _ c.number_of-own.ensures _ c.number_of-behind.ensures (search rules) (search rules) (search rules) (search rules)

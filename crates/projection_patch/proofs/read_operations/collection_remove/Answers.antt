@@ -1,20 +1,18 @@
 -- `projection_patch::read_operations::collection_remove` meets its contract: a collection and a key.
-use Rattle.std.proofs.lemmas.Result.{err_from_is_err_and}
 use Rattle.spec_lists.proofs.BytesLaws.{bytes_of}
 use Rattle.spec_patch.specs.Read.{operation_after}
 use Rattle.spec_patch.proofs.Codec.{pair_codec}
 use Rattle.spec_patch.proofs.ReadLaws.{u64_codec}
 use Rattle.projection_patch.specs.ReadAnswers.{plain}
-use Rattle.projection_patch.proofs.Answers.{not_got, numbers_got}
+use Rattle.projection_patch.proofs.Answers.{numbers_got, handed_on}
 use Rattle.projection_patch.proofs.Places.{node_is, key_is}
 use Rattle.projection_patch.proofs.read_operations.collection_remove.Goals as goal
 
 pub returns-in_err-collection : goal.returns-in_err-collection
 unfolding operation_after
 returns-in_err-collection c strict ed =
-    let g = not_got plain (pair_codec u64_codec u64_codec) c.args.part.now 1 c.numbers_at.result c.numbers_at.ensures c.in_err-collection.field-0.0 c.in_err-collection.was in
-    let p = err_from_is_err_and c.from_residual.result c.from_residual.ensures.1 in
-    rw (p.1, p.2, ← g.same, g.is)
+    let g = handed_on plain (pair_codec u64_codec u64_codec) c.args.part.now 1 c.numbers_at.result c.numbers_at.ensures c.in_err-collection.field-0.0 c.in_err-collection.was c.from_residual.ensures.1 in
+    rw (g.told, g.is)
 
 pub returns : goal.returns
 unfolding operation_after

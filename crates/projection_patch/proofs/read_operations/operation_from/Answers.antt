@@ -2,14 +2,13 @@
 use mathlib.Core.Path.{◌≡◌, ap, ◌∙◌}
 use borrow.Author.Rules.{rules}
 use lib.ListN.{drop}
-use Rattle.std.proofs.lemmas.Result.{err_from_is_err_and}
 use Rattle.spec_lists.proofs.BytesLaws.{bytes_of}
 use Rattle.spec_patch.specs.Reader.{byte, read}
 use Rattle.spec_patch.specs.Read.{operation_after, read_operation_by}
 use Rattle.spec_patch.proofs.Codec.{byte_codec}
 use Rattle.projection_patch.specs.Meaning.{edition_of}
 use Rattle.projection_patch.specs.ReadAnswers.{plain}
-use Rattle.projection_patch.proofs.Answers.{plain_got, not_got, behind_byte}
+use Rattle.projection_patch.proofs.Answers.{plain_got, behind_byte, handed_on}
 use Rattle.projection_patch.proofs.read_operations.operation_from.Goals as goal
 use Rattle.projection_patch.proofs.read_operations.operation_from.Goals.{In_ok-tag}
 
@@ -22,9 +21,8 @@ tagged c =
 pub returns-in_err-tag : goal.returns-in_err-tag
 unfolding read_operation_by
 returns-in_err-tag c =
-    let g = not_got plain byte_codec c.args.part.now 0 c.byte_at.result c.byte_at.ensures c.in_err-tag.field-0.0 c.in_err-tag.was in
-    let p = err_from_is_err_and c.from_residual.result c.from_residual.ensures.1 in
-    rw (p.1, p.2, ← g.same, g.is)
+    let g = handed_on plain byte_codec c.args.part.now 0 c.byte_at.result c.byte_at.ensures c.in_err-tag.field-0.0 c.in_err-tag.was c.from_residual.ensures.1 in
+    rw (g.told, g.is)
 
 pub returns-in-1 : goal.returns-in-1
 unfolding read_operation_by

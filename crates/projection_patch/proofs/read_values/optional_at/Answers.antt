@@ -1,13 +1,12 @@
 -- `projection_patch::read_values::optional_at` meets its contract: the tag picks the reader.
 use mathlib.Core.Path.{◌∙◌}
 use borrow.Author.Rules.{rules}
-use Rattle.std.proofs.lemmas.Result.{err_from_is_err_and}
 use Rattle.spec_lists.proofs.BytesLaws.{bytes_of}
 use Rattle.spec_patch.specs.Reader.{byte}
 use Rattle.spec_patch.specs.Read.{optional_after, read_optional}
 use Rattle.spec_patch.proofs.Codec.{byte_codec}
 use Rattle.projection_patch.specs.ReadAnswers.{plain}
-use Rattle.projection_patch.proofs.Answers.{GotPlain, plain_got, not_got}
+use Rattle.projection_patch.proofs.Answers.{GotPlain, plain_got, handed_on}
 use Rattle.projection_patch.proofs.read_values.optional_at.Goals as goal
 use Rattle.projection_patch.proofs.read_values.optional_at.Goals.{In_ok-tag}
 
@@ -18,9 +17,8 @@ got c =
 pub returns-in_err-tag : goal.returns-in_err-tag
 unfolding read_optional
 returns-in_err-tag c =
-    let g = not_got plain byte_codec c.args.part.now c.args.at c.byte_at.result c.byte_at.ensures c.in_err-tag.field-0.0 c.in_err-tag.was in
-    let p = err_from_is_err_and c.from_residual.result c.from_residual.ensures.1 in
-    rw (p.1, p.2, ← g.same, g.is)
+    let g = handed_on plain byte_codec c.args.part.now c.args.at c.byte_at.result c.byte_at.ensures c.in_err-tag.field-0.0 c.in_err-tag.was c.from_residual.ensures.1 in
+    rw (g.told, g.is)
 
 pub returns-in-0 : goal.returns-in-0
 unfolding read_optional optional_after

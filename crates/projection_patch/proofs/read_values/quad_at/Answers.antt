@@ -6,7 +6,7 @@ use Rattle.spec_patch.specs.Reader.{byte}
 use Rattle.spec_patch.specs.Read.{read_quad}
 use Rattle.spec_patch.proofs.Codec.{byte_codec}
 use Rattle.projection_patch.specs.ReadAnswers.{plain}
-use Rattle.projection_patch.proofs.Answers.{GotPlain, plain_got, not_got}
+use Rattle.projection_patch.proofs.Answers.{GotPlain, plain_got, handed_on}
 use Rattle.projection_patch.proofs.States.{quad_left}
 use Rattle.projection_patch.proofs.read_values.quad_at.Goals as goal
 use Rattle.projection_patch.proofs.read_values.quad_at.Goals.{In_ok-tag}
@@ -18,9 +18,8 @@ got c =
 pub returns-in_err-tag : goal.returns-in_err-tag
 unfolding read_quad
 returns-in_err-tag c =
-    let g = not_got plain byte_codec c.args.part.now c.args.at c.byte_at.result c.byte_at.ensures c.in_err-tag.field-0.0 c.in_err-tag.was in
-    let p = err_from_is_err_and c.from_residual.result c.from_residual.ensures.1 in
-    rw (p.1, p.2, ← g.same, g.is)
+    let g = handed_on plain byte_codec c.args.part.now c.args.at c.byte_at.result c.byte_at.ensures c.in_err-tag.field-0.0 c.in_err-tag.was c.from_residual.ensures.1 in
+    rw (g.told, g.is)
 
 pub returns-in_err-try_from : goal.returns-in_err-try_from
 unfolding read_quad

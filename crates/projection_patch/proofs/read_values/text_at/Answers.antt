@@ -1,19 +1,17 @@
 -- `projection_patch::read_values::text_at` meets its contract: a length of four bytes, then the text.
 use mathlib.Core.Path.{◌∙◌}
-use Rattle.std.proofs.lemmas.Result.{err_from_is_err_and}
 use Rattle.spec_lists.proofs.BytesLaws.{bytes_of}
 use Rattle.spec_patch.specs.Read.{read_text_by}
 use Rattle.spec_patch.proofs.ReadLaws.{u32_codec}
 use Rattle.projection_patch.specs.ReadAnswers.{plain}
-use Rattle.projection_patch.proofs.Answers.{plain_got, not_got}
+use Rattle.projection_patch.proofs.Answers.{plain_got, handed_on}
 use Rattle.projection_patch.proofs.read_values.text_at.Goals as goal
 
 pub returns-in_err-len : goal.returns-in_err-len
 unfolding read_text_by
 returns-in_err-len c =
-    let g = not_got plain u32_codec c.args.part.now c.args.at c.u32_at.result c.u32_at.ensures c.in_err-len.field-0.0 c.in_err-len.was in
-    let p = err_from_is_err_and c.from_residual.result c.from_residual.ensures.1 in
-    rw (p.1, p.2, ← g.same, g.is)
+    let g = handed_on plain u32_codec c.args.part.now c.args.at c.u32_at.result c.u32_at.ensures c.in_err-len.field-0.0 c.in_err-len.was c.from_residual.ensures.1 in
+    rw (g.told, g.is)
 
 pub returns : goal.returns
 unfolding read_text_by

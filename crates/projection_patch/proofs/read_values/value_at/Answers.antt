@@ -1,14 +1,13 @@
 -- `projection_patch::read_values::value_at` meets its contract: the kind picks the reader, and every edition has kinds 1 to 4.
 use mathlib.Core.Path.{◌∙◌}
 use borrow.Author.Rules.{rules}
-use Rattle.std.proofs.lemmas.Result.{err_from_is_err_and}
 use Rattle.spec_lists.proofs.BytesLaws.{bytes_of}
 use Rattle.spec_patch.specs.Edition.{kinds, has_kind}
 use Rattle.spec_patch.specs.Reader.{byte}
 use Rattle.spec_patch.specs.Read.{value_after, in_edition, read_value_by}
 use Rattle.spec_patch.proofs.Codec.{byte_codec}
 use Rattle.projection_patch.specs.ReadAnswers.{plain}
-use Rattle.projection_patch.proofs.Answers.{GotPlain, plain_got, not_got}
+use Rattle.projection_patch.proofs.Answers.{GotPlain, plain_got, handed_on}
 use Rattle.projection_patch.proofs.read_values.value_at.Goals as goal
 use Rattle.projection_patch.proofs.read_values.value_at.Goals.{In_ok-tag}
 
@@ -19,9 +18,8 @@ got c =
 pub returns-in_err-tag : goal.returns-in_err-tag
 unfolding read_value_by
 returns-in_err-tag c =
-    let g = not_got plain byte_codec c.args.part.now c.args.at c.byte_at.result c.byte_at.ensures c.in_err-tag.field-0.0 c.in_err-tag.was in
-    let p = err_from_is_err_and c.from_residual.result c.from_residual.ensures.1 in
-    rw (p.1, p.2, ← g.same, g.is)
+    let g = handed_on plain byte_codec c.args.part.now c.args.at c.byte_at.result c.byte_at.ensures c.in_err-tag.field-0.0 c.in_err-tag.was c.from_residual.ensures.1 in
+    rw (g.told, g.is)
 
 pub returns-in-1 : goal.returns-in-1
 unfolding read_value_by value_after in_edition has_kind kinds
