@@ -18,7 +18,8 @@ pub fn set_up(state: ReplayState, senders: u64, out: &mut [u8]) -> ReplayStep
 {
     let made = SenderTurns::new(senders as usize);
     let printed = script_answers::turns::print_set_up(out, Some(0), made);
-    let next = state::with_turns(state, made.unwrap_or(state.turns));
+    let turns = made.unwrap_or(state.turns);
+    let next = state::with_turns(state, turns);
     ReplayStep {
         state: next,
         printed,
