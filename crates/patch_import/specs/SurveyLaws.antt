@@ -104,6 +104,12 @@ module _ (collection : ℕ) (list : List ℕ) (at n bytes : ℕ) (repeated : Boo
   survey_refused more reason.OtherForm e = sym (ap (survey_from collection n bytes repeated targets) (reads_other list at n more e))
   survey_refused more reason.OverCapacity e = sym (ap (survey_from collection n bytes repeated targets) (reads_over list at n more e))
 
+  pub survey_other : at < length list → line_answer at (drop at list) ≡ Err reason.OtherForm → Err OtherForm ≡ survey_from collection n bytes repeated targets (read_terms n (lines (drop at list)))
+  survey_other more e = survey_refused more reason.OtherForm e
+
+  pub survey_over : at < length list → line_answer at (drop at list) ≡ Err reason.OverCapacity → Err OverCapacity ≡ survey_from collection n bytes repeated targets (read_terms n (lines (drop at list)))
+  survey_over more e = survey_refused more reason.OverCapacity e
+
   pub survey_end : length list ≤ at → lines_within n bytes repeated ≡ survey_from collection n bytes repeated targets (read_terms n (lines (drop at list)))
   unfolding insert_bytes flat_map found_from
   survey_end h = sym (ap (survey_from collection n bytes repeated targets) (reads_end list at n h) ∙ same_within (omega arith) (omega arith) (or_false repeated))

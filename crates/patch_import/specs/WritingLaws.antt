@@ -50,10 +50,10 @@ three_written out a b x n long-a long-b room =
 
 module _ {list : List ℕ} {at : ℕ} {rest : List Term} (left : TermsLeft list at rest) where
   -- none is of another form or over its limits
-  left_other : {C : Type 0} → at < length list → line_answer at (drop at list) ≡ Err reason.OtherForm → C
+  pub left_other : {C : Type 0} → at < length list → line_answer at (drop at list) ≡ Err reason.OtherForm → C
   left_other more e = never other_form left.reads (reads_other list at left.done more e)
 
-  left_over : {C : Type 0} → at < length list → line_answer at (drop at list) ≡ Err reason.OverCapacity → C
+  pub left_over : {C : Type 0} → at < length list → line_answer at (drop at list) ≡ Err reason.OverCapacity → C
   left_over more e = never over_capacity left.reads (reads_over list at left.done more e)
 
   -- so each holds a term
