@@ -1,5 +1,6 @@
 -- `c_answers::figures::taken_figure` meets its contract, case by case.
 use Rattle.std.specs.Prelude as code
+use Rattle.std.specs.Prelude.{ℕ}
 use mathlib.Core.Path.{sym, ap, ◌∙◌}
 use Rattle.spec_lists.specs.Options.{optional_of}
 use Rattle.c_answers.specs.Explanations.{taken_figure}
