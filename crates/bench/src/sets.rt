@@ -21,10 +21,12 @@ fn read(set: &[u8]) -> u64 {
 // The number of operations where there is no finding, or the refusal's number.
 fn quick_check(set: &[u8]) -> u64 {
     match quick_set::quick_check(set, ProjectionPatchEdition::V1) {
-        Ok(QuickCheck::Clean {
-            operation_count,
-            ..
-        }) => operation_count as u64,
+        Ok(
+            QuickCheck::Clean {
+                operation_count,
+                ..
+            },
+        ) => operation_count as u64,
         Ok(QuickCheck::Found) => 11,
         Err(fault) => fault.number(),
     }

@@ -83,7 +83,11 @@ pub fn print_listing(
 }
 
 // Writes the listing of a set.
-pub fn write_listing(set: &[u8], edition: ProjectionPatchEdition, out: &mut [u8]) -> Result<usize, WriteRefusal>
+pub fn write_listing(
+    set: &[u8],
+    edition: ProjectionPatchEdition,
+    out: &mut [u8],
+) -> Result<usize, WriteRefusal>
     ensures { Writes out.old (listing (edition_of edition) set.now) out.new result }
 {
     let mut text = [0u8; LISTING_BYTES];

@@ -14,7 +14,13 @@ ghost use Rattle.script_answers.specs.CheckOf.{finding_told, CheckOf};
 use check_set::check_set::{CheckPlace, PatchSetCheck};
 use projection_patch::read_values::ProjectionPatchReadFault;
 
-fn print_finding(out: &mut [u8], at: Option<usize>, kind: u64, domain: u64, secondary: u64) -> Option<usize>
+fn print_finding(
+    out: &mut [u8],
+    at: Option<usize>,
+    kind: u64,
+    domain: u64,
+    secondary: u64,
+) -> Option<usize>
     ensures { Prints out.old at (finding_line (finding_told kind domain secondary)) out.new result }
 {
     let letter = bytes_printer::print_byte(out, at, 70);
@@ -25,7 +31,12 @@ fn print_finding(out: &mut [u8], at: Option<usize>, kind: u64, domain: u64, seco
 }
 
 // A line for each of the first count records, of three numbers each.
-fn print_findings(out: &mut [u8], from: Option<usize>, records: &[u64], count: usize) -> Option<usize>
+fn print_findings(
+    out: &mut [u8],
+    from: Option<usize>,
+    records: &[u64],
+    count: usize,
+) -> Option<usize>
     ensures { (fs : List Finding) → length fs ≡ count → take (record_length * count) records.now ≡ finding_words fs → Within out.old from
         → Prints out.old from (flat_map finding_line fs) out.new result }
 {
@@ -52,7 +63,12 @@ fn print_place(out: &mut [u8], at: Option<usize>, place: CheckPlace) -> Option<u
     }
 }
 
-fn print_checked(out: &mut [u8], at: Option<usize>, place: CheckPlace, logical: usize) -> Option<usize>
+fn print_checked(
+    out: &mut [u8],
+    at: Option<usize>,
+    place: CheckPlace,
+    logical: usize,
+) -> Option<usize>
     ensures { (f : Findings) → place ≡ place_to f.place → logical ≡ length f.found → Prints out.old at (checked_line f) out.new result }
 {
     let letter = bytes_printer::print_byte(out, at, 75);
@@ -63,7 +79,12 @@ fn print_checked(out: &mut [u8], at: Option<usize>, place: CheckPlace, logical: 
 }
 
 // What the check of a set answered and wrote, where it was lent room for every record.
-pub fn print_check(out: &mut [u8], at: Option<usize>, answer: Result<PatchSetCheck, ProjectionPatchReadFault>, records: &[u64]) -> Option<usize>
+pub fn print_check(
+    out: &mut [u8],
+    at: Option<usize>,
+    answer: Result<PatchSetCheck, ProjectionPatchReadFault>,
+    records: &[u64],
+) -> Option<usize>
     ensures { (ed : Edition) (set : List ℕ) → CheckOf ed set answer records.now → Prints out.old at (check_lines (read_set ed set)) out.new result }
 {
     match answer {
@@ -71,8 +92,6 @@ pub fn print_check(out: &mut [u8], at: Option<usize>, answer: Result<PatchSetChe
             let head = print_checked(out, at, checked.place, checked.logical);
             print_findings(out, head, records, checked.logical)
         }
-        Err(fault) => {
-            listing_lines::print_number_line(out, at, 75, fault.number())
-        }
+        Err(fault) => { listing_lines::print_number_line(out, at, 75, fault.number()) }
     }
 }

@@ -38,8 +38,6 @@ pub fn print_conversion(
 {
     match answer {
         Ok(len) => print_set(out, at, 84, written, len),
-        Err(refusal) => {
-            listing_lines::print_number_line(out, at, 84, refusal.number())
-        }
+        Err(refusal) => { listing_lines::print_number_line(out, at, 84, refusal.number()) }
     }
 }

@@ -39,7 +39,13 @@ fn print_keys(out: &mut [u8], from: Option<usize>, words: &[u64], count: usize) 
 }
 
 // D, 0, a word and two numbers.
-fn print_verdict(out: &mut [u8], at: Option<usize>, word: &[u8], first: usize, second: usize) -> Option<usize>
+fn print_verdict(
+    out: &mut [u8],
+    at: Option<usize>,
+    word: &[u8],
+    first: usize,
+    second: usize,
+) -> Option<usize>
     ensures { Prints out.old at (68 ∷ fields (decimal 0 ∷ word.now ∷ decimal first ∷ decimal second ∷ [])) out.new result }
 {
     let letter = bytes_printer::print_byte(out, at, 68);
@@ -57,7 +63,13 @@ fn print_never(out: &mut [u8], at: Option<usize>, patch: usize, operation: usize
 }
 
 // Both counts, and the records that were written.
-fn print_needs(out: &mut [u8], at: Option<usize>, held: usize, lacked: usize, written: &[u64]) -> Option<usize>
+fn print_needs(
+    out: &mut [u8],
+    at: Option<usize>,
+    held: usize,
+    lacked: usize,
+    written: &[u64],
+) -> Option<usize>
     ensures { pair_length * (held + lacked) ≤ length written.now
         → Prints out.old at (verdict_lines (answer_needs held lacked) written.now) out.new result }
 {

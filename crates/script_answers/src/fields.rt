@@ -29,7 +29,11 @@ fn print_disposition(
     }
 }
 
-pub fn print_lifecycle(out: &mut [u8], at: Option<usize>, lifecycle: ShellLifecycle) -> Option<usize>
+pub fn print_lifecycle(
+    out: &mut [u8],
+    at: Option<usize>,
+    lifecycle: ShellLifecycle,
+) -> Option<usize>
     ensures { Prints out.old at (spaced_field (lifecycle_field (lifecycle_of lifecycle))) out.new result }
 {
     match lifecycle {
@@ -40,7 +44,11 @@ pub fn print_lifecycle(out: &mut [u8], at: Option<usize>, lifecycle: ShellLifecy
     }
 }
 
-pub fn print_cursor(out: &mut [u8], at: Option<usize>, cursor: ProjectionReplayCursor) -> Option<usize>
+pub fn print_cursor(
+    out: &mut [u8],
+    at: Option<usize>,
+    cursor: ProjectionReplayCursor,
+) -> Option<usize>
     ensures { Prints out.old at (spaced_field (cursor_field (cursor_of cursor))) out.new result }
 {
     match cursor {

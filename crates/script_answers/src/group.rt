@@ -12,7 +12,12 @@ use session_lifecycle::state::ProjectionReplayCursor;
 use session_steps::answers::ProjectionPatchApplicationResult;
 
 // How many batches were taken, and the cursor afterwards.
-fn print_taken(out: &mut [u8], at: Option<usize>, count: usize, cursor: ProjectionReplayCursor) -> Option<usize>
+fn print_taken(
+    out: &mut [u8],
+    at: Option<usize>,
+    count: usize,
+    cursor: ProjectionReplayCursor,
+) -> Option<usize>
     ensures { Prints out.old at (group_lines (taken count (cursor_of cursor))) out.new result }
 {
     let letter = bytes_printer::print_byte(out, at, 85);

@@ -59,14 +59,17 @@ fn print_answered(out: &mut [u8], at: Option<usize>, table: &[u8], count: usize)
 }
 
 // What the call answered, and the answer table that it left.
-pub fn print_page(out: &mut [u8], at: Option<usize>, answer: Result<usize, PageRefusal>, table: &[u8]) -> Option<usize>
+pub fn print_page(
+    out: &mut [u8],
+    at: Option<usize>,
+    answer: Result<usize, PageRefusal>,
+    table: &[u8],
+) -> Option<usize>
     ensures { (p : Projection) (c : ℕ) (keys : List ℕ) (places : ℕ) → PageTold p c keys places answer table.now
         → Prints out.old at (page_lines (length keys) (page p c keys (replicate places none))) out.new result }
 {
     match answer {
         Ok(count) => print_answered(out, at, table, count),
-        Err(refusal) => {
-            listing_lines::print_number_line(out, at, 89, refusal.number())
-        }
+        Err(refusal) => { listing_lines::print_number_line(out, at, 89, refusal.number()) }
     }
 }

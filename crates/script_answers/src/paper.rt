@@ -20,7 +20,12 @@ fn print_paper(out: &mut [u8], at: Option<usize>, bytes: &[u8]) -> Option<usize>
 }
 
 // What a print answered and wrote.
-pub fn print_collection(out: &mut [u8], at: Option<usize>, answer: Result<usize, PrintRefusal>, written: &[u8]) -> Option<usize>
+pub fn print_collection(
+    out: &mut [u8],
+    at: Option<usize>,
+    answer: Result<usize, PrintRefusal>,
+    written: &[u8],
+) -> Option<usize>
     ensures { (lent print : List ℕ) → PrintTold lent print answer written.now
         → Prints out.old at (print_lines (length lent) print) out.new result }
 {
@@ -31,8 +36,6 @@ pub fn print_collection(out: &mut [u8], at: Option<usize>, answer: Result<usize,
             }
             print_paper(out, at, &written[0..len])
         }
-        Err(refusal) => {
-            listing_lines::print_number_line(out, at, 79, refusal.number())
-        }
+        Err(refusal) => { listing_lines::print_number_line(out, at, 79, refusal.number()) }
     }
 }

@@ -14,18 +14,24 @@ use session_steps::answers::{
     ProjectionPatchApplicationDisposition, ProjectionPatchApplicationResult,
 };
 
-pub fn print_creation(out: &mut [u8], at: Option<usize>, answer: Result<(), CreationRefusal>) -> Option<usize>
+pub fn print_creation(
+    out: &mut [u8],
+    at: Option<usize>,
+    answer: Result<(), CreationRefusal>,
+) -> Option<usize>
     ensures { (c : Creation) → answer ≡ creation_to c → Prints out.old at (creation_line c) out.new result }
 {
     match answer {
         Ok(()) => listing_lines::print_number_line(out, at, 83, 0),
-        Err(refusal) => {
-            listing_lines::print_number_line(out, at, 83, refusal.number())
-        }
+        Err(refusal) => { listing_lines::print_number_line(out, at, 83, refusal.number()) }
     }
 }
 
-pub fn print_lifecycle(out: &mut [u8], at: Option<usize>, res: ShellTransitionResult) -> Option<usize>
+pub fn print_lifecycle(
+    out: &mut [u8],
+    at: Option<usize>,
+    res: ShellTransitionResult,
+) -> Option<usize>
     ensures { Prints out.old at (lifecycle_line (answer_of res)) out.new result }
 {
     let disposition = res.disposition;
@@ -54,7 +60,11 @@ fn transition_disposition(
     }
 }
 
-pub fn print_batch(out: &mut [u8], at: Option<usize>, res: ProjectionPatchApplicationResult) -> Option<usize>
+pub fn print_batch(
+    out: &mut [u8],
+    at: Option<usize>,
+    res: ProjectionPatchApplicationResult,
+) -> Option<usize>
     ensures { Prints out.old at (batch_line (batch_answer_of res)) out.new result }
 {
     let told = res.disposition;

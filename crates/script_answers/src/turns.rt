@@ -9,25 +9,29 @@ ghost use Rattle.script_answers.specs.TurnAnswers.{register_answer_of};
 
 use session_turns::{RegisterRefusal, SenderTurns, SetUpRefusal, Turn};
 
-pub fn print_set_up(out: &mut [u8], at: Option<usize>, answer: Result<SenderTurns, SetUpRefusal>) -> Option<usize>
+pub fn print_set_up(
+    out: &mut [u8],
+    at: Option<usize>,
+    answer: Result<SenderTurns, SetUpRefusal>,
+) -> Option<usize>
     ensures { (s : SetUp) → answer ≡ set_up_to s → Prints out.old at (set_up_line s) out.new result }
 {
     match answer {
         Ok(_) => listing_lines::print_number_line(out, at, 74, 0),
-        Err(refusal) => {
-            listing_lines::print_number_line(out, at, 74, refusal.number())
-        }
+        Err(refusal) => { listing_lines::print_number_line(out, at, 74, refusal.number()) }
     }
 }
 
-pub fn print_registration(out: &mut [u8], at: Option<usize>, answer: Result<(), RegisterRefusal>) -> Option<usize>
+pub fn print_registration(
+    out: &mut [u8],
+    at: Option<usize>,
+    answer: Result<(), RegisterRefusal>,
+) -> Option<usize>
     ensures { Prints out.old at (register_line (register_answer_of answer)) out.new result }
 {
     match answer {
         Ok(()) => listing_lines::print_number_line(out, at, 74, 0),
-        Err(refusal) => {
-            listing_lines::print_number_line(out, at, 74, refusal.number())
-        }
+        Err(refusal) => { listing_lines::print_number_line(out, at, 74, refusal.number()) }
     }
 }
 

@@ -24,7 +24,11 @@ pub fn print_value(out: &mut [u8], at: Option<usize>, lookup: ValueLookup) -> Op
     print_none(out, letter)
 }
 
-pub fn print_availability(out: &mut [u8], at: Option<usize>, lookup: AvailabilityLookup) -> Option<usize>
+pub fn print_availability(
+    out: &mut [u8],
+    at: Option<usize>,
+    lookup: AvailabilityLookup,
+) -> Option<usize>
     ensures { Prints out.old at (availability_lookup_line lookup) out.new result }
 {
     let letter = bytes_printer::print_byte(out, at, 86);

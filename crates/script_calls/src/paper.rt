@@ -24,7 +24,12 @@ fn lent_bytes(room: u64) -> usize
     PRINT_BYTES
 }
 
-fn print_lent(session: ShellSession, collection: u64, lent: &mut [u8], out: &mut [u8]) -> Option<usize>
+fn print_lent(
+    session: ShellSession,
+    collection: u64,
+    lent: &mut [u8],
+    out: &mut [u8],
+) -> Option<usize>
     ensures { (m : Session) → Holds session m
         → Prints out.old (Some 0) (print_lines (length lent.old) (collection_print m.projection collection)) out.new result }
 {

@@ -42,7 +42,12 @@ fn print_converted(
 }
 
 // A conversion into so many bytes, all zero.
-fn convert_into(set: &[u8], edition: ProjectionPatchEdition, room: u16, out: &mut [u8]) -> Option<usize>
+fn convert_into(
+    set: &[u8],
+    edition: ProjectionPatchEdition,
+    room: u16,
+    out: &mut [u8],
+) -> Option<usize>
     ensures { Prints out.old (Some 0) (conversion_line (convert (edition_of edition) set.now room)) out.new result }
 {
     let mut lent = [0u8; SET_BYTES];

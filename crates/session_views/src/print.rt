@@ -11,7 +11,11 @@ use shell_player::session::ShellSession;
 
 // From the start of the output on, whole or not at all. What is behind the print stays; a refusal leaves every byte. A closed session prints as
 // any other.
-pub fn print_collection(session: ShellSession, collection: u64, out: &mut [u8]) -> Result<usize, PrintRefusal>
+pub fn print_collection(
+    session: ShellSession,
+    collection: u64,
+    out: &mut [u8],
+) -> Result<usize, PrintRefusal>
     ensures printed { (m : Session) → Holds session m
         → (result ≡ print_answer out.old (collection_print m.projection collection)) × (out.new ≡ overwrite out.old 0 (collection_print m.projection collection)) }
     ensures kept { OthersKept out.old out.new result }

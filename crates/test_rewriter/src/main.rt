@@ -19,7 +19,11 @@ const LINE_BYTES: usize = 65537;
 
 // The digit of a value below 16.
 fn digit(value: u8) -> u8 {
-    if value < 10 { b'0' + value } else { b'a' - 10 + value % 16 }
+    if value < 10 {
+        b'0' + value
+    } else {
+        b'a' - 10 + value % 16
+    }
 }
 
 // Prints bytes in hex, and the line's end.

@@ -25,7 +25,10 @@ fn show_place(rt: &impl Print, place: CheckPlace) -> io::Result<()> {
     }
 }
 
-fn show_answer(rt: &impl Print, answer: Result<PatchSetCheck, ProjectionPatchReadFault>) -> io::Result<()> {
+fn show_answer(
+    rt: &impl Print,
+    answer: Result<PatchSetCheck, ProjectionPatchReadFault>,
+) -> io::Result<()> {
     match answer {
         Ok(checked) => {
             show_place(rt, checked.place)?;
@@ -36,7 +39,10 @@ fn show_answer(rt: &impl Print, answer: Result<PatchSetCheck, ProjectionPatchRea
     }
 }
 
-fn show_quick(rt: &impl Print, answer: Result<QuickCheck, ProjectionPatchReadFault>) -> io::Result<()> {
+fn show_quick(
+    rt: &impl Print,
+    answer: Result<QuickCheck, ProjectionPatchReadFault>,
+) -> io::Result<()> {
     match answer {
         Ok(QuickCheck::Clean { .. }) => rt.print("clean:"),
         Ok(QuickCheck::Found) => rt.print("found:"),

@@ -81,7 +81,12 @@ pub(crate) fn wide_texts() -> [u8; WIDE_TEXTS] {
 }
 
 // Writes into the first places of the output.
-fn write_front(set: ProjectionPatchSet, lent: &[u8], out: &mut [u8], places: usize) -> Result<usize, WriteRefusal> {
+fn write_front(
+    set: ProjectionPatchSet,
+    lent: &[u8],
+    out: &mut [u8],
+    places: usize,
+) -> Result<usize, WriteRefusal> {
     if out.len() < places {
         return Err(WriteRefusal::OutputTooShort);
     }

@@ -108,9 +108,20 @@ loop-done-preserved c =
     let still = at_most_still c.loop-done.ids _ c.loop-done.done id c.loop-done.highest c.max-highest.result fits c.after_found-found.ensures.kept c.loop-done.invariant.1.1.1.1.0 (omega (arith, c.max-highest.ensures)) (omega (arith, c.max-highest.ensures, c.raw.ensures)) in
     let rest : ℕ → code.Result SetInspection ProjectionPatchReadFault = λ n. patches_left (edition at_loop) (known at_loop) c.args.set.now c.in_ok-patch.end n (passed_patches (c.loop-done.done + 1) (c.loop-done.operations + x.head.operation_count) (c.loop-done.absent + x.absent) c.after_found-found.result) (take (c.loop-done.done + 1) c.after_found-found.new.ids) (some (envelope_of x.head.envelope)) in (
       t.1,
-      (omega (arith, s.0), (omega (arith, s.1), ((ap length c.after_found-found.ensures.kept ∙ length-set c.loop-done.ids c.loop-done.done _ ∙ c.loop-done.invariant.1.1.1.0.0, omega (arith, t.0)), (still,
-      ap rest less
-      ∙ patches_turn (edition at_loop) (known at_loop) c.args.set.now c.loop-done.at (left at_loop) (before at_loop) (previous_of c.loop-done.previous) (omega arith) x c.in_ok-patch.end g _ c.loop-done.ids _ fits c.after_found-found.ensures.found c.after_found-found.ensures.kept ∙ c.loop-done.invariant.1.1.1.1.1)))),
+      (
+        omega (arith, s.0),
+        (
+          omega (arith, s.1),
+          (
+            (ap length c.after_found-found.ensures.kept ∙ length-set c.loop-done.ids c.loop-done.done _ ∙ c.loop-done.invariant.1.1.1.0.0, omega (arith, t.0)),
+            (
+              still,
+              ap rest less
+                  ∙ patches_turn (edition at_loop) (known at_loop) c.args.set.now c.loop-done.at (left at_loop) (before at_loop) (previous_of c.loop-done.previous) (omega arith) x c.in_ok-patch.end g _ c.loop-done.ids _ fits c.after_found-found.ensures.found c.after_found-found.ensures.kept ∙ c.loop-done.invariant.1.1.1.1.1,
+            ),
+          ),
+        ),
+      ),
     )
 
 pub returns : goal.returns

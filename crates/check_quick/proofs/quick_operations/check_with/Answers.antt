@@ -44,9 +44,14 @@ loop-i-preserved c =
     let front = ap₂ take next c.operation_found-found.ensures.kept ∙ with_target_front (3 * i) own ts more in
     let told = c.operation_found-found.ensures.found ∙ ap (λ (b : Bool). c.loop-i.found || (target_seen own (take (3 * i) ts) || b)) (c.before_self-own.ensures []) in (
       one.within,
-      (omega (arith, same), (rw front c.operation_found-found.ensures.marked,
-      λ known. ap (λ (n : ℕ). quick_left_answer ed known c.args.set.now (c.loop-i.at + c.in_ok-operation.taken) n c.operation_found-found.result (take (3 * (i + 1)) c.operation_found-found.new.targets)) less
-      ∙ operations_turn ed known c.args.set.now c.loop-i.at (c.args.count - i) c.loop-i.found (take (3 * i) ts) (omega arith) _ c.in_ok-operation.taken one.got own _ _ (c.mutation_target-target.ensures []) told front ∙ c.loop-i.invariant.1.1.1 known)),
+      (
+        omega (arith, same),
+        (
+          rw front c.operation_found-found.ensures.marked,
+          λ known. ap (λ (n : ℕ). quick_left_answer ed known c.args.set.now (c.loop-i.at + c.in_ok-operation.taken) n c.operation_found-found.result (take (3 * (i + 1)) c.operation_found-found.new.targets)) less
+              ∙ operations_turn ed known c.args.set.now c.loop-i.at (c.args.count - i) c.loop-i.found (take (3 * i) ts) (omega arith) _ c.in_ok-operation.taken one.got own _ _ (c.mutation_target-target.ensures []) told front ∙ c.loop-i.invariant.1.1.1 known,
+        ),
+      ),
     )
 
 pub returns-in_err-operation : goal.returns-in_err-operation

@@ -11,7 +11,7 @@ unfolding after_found
 returns-then-seen-clause-found c =
     let seen = c.id_repeats-seen.ensures.seen ∙ ap (λ (n : ℕ). id_seen n (take c.args.used c.args.ids.now)) c.raw.ensures in
     elim c.if-own.branch [
-      then-own w ↦ elim c.if-earlier.branch [ then-earlier v ↦ grind (arith, nat_tests, seen) | else-earlier v ↦ grind (arith, nat_tests, seen) ]
+      | then-own w ↦ elim c.if-earlier.branch [ then-earlier v ↦ grind (arith, nat_tests, seen) | else-earlier v ↦ grind (arith, nat_tests, seen) ]
       | else-own w ↦ elim c.if-earlier.branch [ then-earlier v ↦ grind (arith, nat_tests, seen) | else-earlier v ↦ grind (arith, nat_tests, seen) ]
     ]
 
@@ -20,6 +20,6 @@ unfolding after_found
 returns-else-seen-clause-found c =
     let seen = c.id_repeats-seen.ensures.seen ∙ ap (λ (n : ℕ). id_seen n (take c.args.used c.args.ids.now)) c.raw.ensures in
     elim c.if-own.branch [
-      then-own w ↦ elim c.if-earlier.branch [ then-earlier v ↦ grind (arith, nat_tests, seen) | else-earlier v ↦ grind (arith, nat_tests, seen) ]
+      | then-own w ↦ elim c.if-earlier.branch [ then-earlier v ↦ grind (arith, nat_tests, seen) | else-earlier v ↦ grind (arith, nat_tests, seen) ]
       | else-own w ↦ elim c.if-earlier.branch [ then-earlier v ↦ grind (arith, nat_tests, seen) | else-earlier v ↦ grind (arith, nat_tests, seen) ]
     ]

@@ -12,7 +12,7 @@ use Rattle.check_quick.proofs.quick_patches.patch_found.Goals.{then-operations-v
 pub returns-then-operations : goal.returns-then-operations
 unfolding head_found
 returns-then-operations c = elim c.then-operations.branch [
-  then-operations-via-then-operations w ↦ sym (or_true (head_found (envelope_of c.args.head.envelope) c.args.head.operation_count) _ w.if-operations.true)
+  | then-operations-via-then-operations w ↦ sym (or_true (head_found (envelope_of c.args.head.envelope) c.args.head.operation_count) _ w.if-operations.true)
   | then-operations-via-else-operations+then-head-eq0 w ↦ rw (eq-eqb _ _ w.if-head-eq0.true)
 ]
 
