@@ -137,6 +137,24 @@ set_too_long_lem ed set h =
 
 -- ---- answers taken apart
 
+-- a stop of this rule, at this place
+abbrev pub stopped : ReadingRule → Inside → ℕ → Stop
+stopped r i p = record { rule = r; inside = i; at = p }
+
+module _ (here : Inside) (x : Result ℕ Stop) where
+  pub within_past : (n : ℕ) → x ≡ Ok n → Ok n ≡ within_to here x
+  within_past n e = sym (ap (within_to here) e)
+
+  module _ (r : ReadingRule) (i : Inside) (p : ℕ) (e : x ≡ Err (stopped r i p)) where
+    pub within_outside : i ≡ insides.Outside → Err (stopped r here p) ≡ within_to here x
+    within_outside q = sym (ap (within_to here) (e ∙ ap (λ (k : Inside). Err (stopped r k p)) q))
+
+    pub within_patch : (a : ℕ) → i ≡ insides.Patch a → Err (stopped r (insides.Patch a) p) ≡ within_to here x
+    within_patch a q = sym (ap (within_to here) (e ∙ ap (λ (k : Inside). Err (stopped r k p)) q))
+
+    pub within_operation : (a b : ℕ) → i ≡ insides.Operation a b → Err (stopped r (insides.Operation a b) p) ≡ within_to here x
+    within_operation a b q = sym (ap (within_to here) (e ∙ ap (λ (k : Inside). Err (stopped r k p)) q))
+
 module _ (n : ℕ) (x : Result ℕ Stop) where
   pub end_left : (at : ℕ) → x ≡ Ok at → at < n → Err (stop_outside rules.BytesLeft at) ≡ end_to n x
   end_left at e h = sym (ap (end_to n) e ∙ ap (λ (t : Bool). if t then Err (stop_outside rules.BytesLeft at) else Ok tt) (lt-ltb at n h))

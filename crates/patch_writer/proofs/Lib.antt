@@ -2,6 +2,7 @@
 mod Elements
 mod Surveyed
 mod Verdict
+mod Judged
 mod Passes
 pub mod CallLaws
 pub mod Progress
