@@ -20,6 +20,7 @@ use Rattle.session_explain.specs.Reasons.{step_to, explanation_to, first_to, cap
 use Rattle.session_explain.specs.Steps.{checks_by}
 use Rattle.session_explain.specs.StepsLaws.{first_then, capped_is, check_steps, operation_steps, steps_are, checks_read}
 use Rattle.session_explain.specs.declared.reasons.BatchReason.{BatchReason}
+use Rattle.session_explain.specs.declared.reasons.BatchExplanation.{BatchExplanation}
 
 module _ (ed : Edition) (m : Session) (e : BatchEnvelope) (declared : ℕ) (set : List ℕ) where
   abbrev operations : Result (Unit {0}) BatchReason
@@ -50,6 +51,15 @@ module _ (ed : Edition) (m : Session) (e : BatchEnvelope) (declared : ℕ) (set 
         by read.0 read.1 ∙ ap (λ (x : SetReading). step_to (operation_steps ed m e declared set (patches_read x))) (sym read.1)
         ∙ sym (ap (λ (y : Result (Unit {0}) BatchReason). first_to y operations) is) ∙ whole
 
+  -- and so the call tells it, under the session's cap
+  module _ {cap : ℕ} (cap_is : cap ≡ m.limits.diagnostics) {r : Result (Unit {0}) BatchReason} (checked : r ≡ step_to (check_steps ed m e declared set)) where
+    pub checks_told : {x : BatchReason} → r ≡ Err x → {out : BatchExplanation} → out ≡ capped_to cap r → out ≡ explanation_to (explain ed m e declared set)
+    checks_told is out = out ∙ told_is cap_is (is ∙ checks_tell checked is)
+
+    pub operations_told : r ≡ Ok tt → {a : Result (Unit {0}) BatchReason} → ((ps : List Patch) → read_set ed set ≡ patches ps → a ≡ step_to (applies (walk_patches step_kept 0 m.projection ps)))
+        → {out : BatchExplanation} → out ≡ capped_to cap a → out ≡ explanation_to (explain ed m e declared set)
+    operations_told is by out = out ∙ told_is cap_is (operations_tell checked is by)
+
   -- of a session by value
   module _ {context : ActivatedShellSessionContext} {state : ShellLocalState} (seen : SeenSession context state m) where
     pub value_cap : context.limits.max_diagnostics_per_transition ≡ m.limits.diagnostics
@@ -65,6 +75,13 @@ module _ (ed : Edition) (m : Session) (e : BatchEnvelope) (declared : ℕ) (set 
 
       pub operations_explain : r ≡ Ok tt → {a : Result (Unit {0}) BatchReason} → ((ps : List Patch) → read_set ed set ≡ patches ps → a ≡ step_to (applies (walk_patches step_kept 0 m.projection ps))) → a ≡ Whole
       operations_explain is by = operations_tell checked is by
+
+      pub checks_explained : {x : BatchReason} → r ≡ Err x → {out : BatchExplanation} → out ≡ capped_to context.limits.max_diagnostics_per_transition r → out ≡ explanation_to (explain ed m e declared set)
+      checks_explained is out = checks_told value_cap checked is out
+
+      pub operations_explained : r ≡ Ok tt → {a : Result (Unit {0}) BatchReason} → ((ps : List Patch) → read_set ed set ≡ patches ps → a ≡ step_to (applies (walk_patches step_kept 0 m.projection ps)))
+          → {out : BatchExplanation} → out ≡ capped_to context.limits.max_diagnostics_per_transition a → out ≡ explanation_to (explain ed m e declared set)
+      operations_explained is by out = operations_told value_cap checked is by out
 
   -- of a session in lent memory
   module _ {id : ℕ} {limits : ShellLifecycleLimits} {state : ShellLocalState} {nodes bindings collections : List ℕ} (seen : Seen m id limits state nodes bindings collections) where

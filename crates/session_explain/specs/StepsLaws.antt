@@ -45,7 +45,8 @@ use Rattle.check_set.specs.declared.check_set.PatchSetCheck.{PatchSetCheck}
 use Rattle.session_lifecycle.specs.Meaning.{refusal_of}
 use Rattle.session_lifecycle.specs.declared.diagnostics.ShellRefusal.{ShellRefusal}
 use Rattle.session_gates.specs.Gates as gates
-use Rattle.session_gates.specs.Gates.{step_of}
+use Rattle.session_gates.specs.Gates.{gate_of, step_of}
+use Rattle.session_gates.specs.declared.gates.GateRefusal.{GateRefusal}
 use Rattle.session_gates.proofs.GatesLaws.{operations_counted}
 use Rattle.session_gates.specs.Lent.{Lent}
 use Rattle.session_gates.proofs.LentLaws.{absent_is}
@@ -151,6 +152,24 @@ module _ (c : Cursor) (e : BatchEnvelope) (g : code.Result (Unit {0}) ShellRefus
       go true h = absurd (let z : ◌≡◌ {A = ℕ} 0 1 = cc in omega arith)
       go false h = refl
 
+-- the same of a gate, whatever diagnostics it counts
+module _ (c : Cursor) (e : BatchEnvelope) (g : code.Result (Unit {0}) GateRefusal) (told : gate_of g ≡ gates.replay_by c e) where
+  pub gate_passed_replay : g ≡ code.Ok tt → Ok tt ≡ step_to (explain_replay_by c e)
+  unfolding explain_replay_by gates.replay_by gate_of require_or batching.require
+  gate_passed_replay is = go (eqb e.patches 0 || takes_number c e.sequence) (sym (ap gate_of is) ∙ told)
+    where
+      go : (t : Bool) → pass tt ≡ batching.require t session.cursor_mismatch → Ok tt ≡ step_to (require_or t (cursor_mismatch (next_number c)))
+      go true h = refl
+      go false h = absurd (let z : ◌≡◌ {A = ℕ} 0 1 = cc in omega arith)
+
+  pub gate_refused_replay : {r : GateRefusal} → g ≡ code.Err r → (o : code.Option ℕ) → o ≡ optional_to (next_number c) → Err (reasons.CursorMismatch o) ≡ step_to (explain_replay_by c e)
+  unfolding explain_replay_by gates.replay_by gate_of require_or batching.require
+  gate_refused_replay {r} is o after = ap (λ x. Err (reasons.CursorMismatch x)) after ∙ go (eqb e.patches 0 || takes_number c e.sequence) (sym (ap gate_of is) ∙ told)
+    where
+      go : (t : Bool) → refuse (refusal_of r.refusal) r.logical ≡ batching.require t session.cursor_mismatch → Err (reasons.CursorMismatch (optional_to (next_number c))) ≡ step_to (require_or t (cursor_mismatch (next_number c)))
+      go true h = absurd (let z : ◌≡◌ {A = ℕ} 0 1 = cc in omega arith)
+      go false h = refl
+
 -- ---- several steps
 
 module _ (c : Catalogue) (l : Limits) (cursor : Cursor) (e : BatchEnvelope) (declared n k absent : ℕ) (ps : List Patch) where
@@ -179,6 +198,14 @@ module _ (c : Catalogue) (l : Limits) (cursor : Cursor) (e : BatchEnvelope) (dec
 
       pub clean_taken : known ≡ Ok tt → {taken : Result (Unit {0}) BatchReason} → taken ≡ step_to (explain_replay_by cursor e) → taken ≡ Clean
       clean_taken h takes = takes ∙ sym (ap (λ (x : Result (Unit {0}) BatchReason). first_to x (step_to (explain_replay_by cursor e))) h) ∙ after_targets
+
+  -- all three at once, whatever each answers
+  pub clean_by_is : {counts known taken both r : Result (Unit {0}) BatchReason} → counts ≡ step_to (explain_counts_by l e declared n k) → known ≡ step_to (targets_known absent (walk_patches (tested (target_known c)) 0 tt ps)) → taken ≡ step_to (explain_replay_by cursor e)
+      → both ≡ first_to known taken → r ≡ first_to counts both → r ≡ step_to (clean_by c l cursor e declared n k absent ps)
+  unfolding clean_by
+  clean_by_is counted known taken both r =
+      let targets = targets_known absent (walk_patches (tested (target_known c)) 0 tt ps) in
+      r ∙ ap₂ first_to counted (both ∙ ap₂ first_to known taken ∙ first_then targets (explain_replay_by cursor e)) ∙ first_then (explain_counts_by l e declared n k) (targets >> explain_replay_by cursor e)
 
 module _ (ed : Edition) (id : ℕ) (l : Limits) (life : Lifecycle) (cursor : Cursor) (c : Catalogue) (e : BatchEnvelope) (declared : ℕ) (set : List ℕ) {pre : Result (Unit {0}) BatchReason} (told : pre ≡ step_to (explain_preflight_by id l life e)) where
   whole : first_to pre (step_to (set_by ed c l cursor e declared set)) ≡ step_to (checks_by ed id l life cursor c e declared set)
