@@ -8,7 +8,7 @@ use Rattle.spec_projection.specs.Projection.{Projection}
 use Rattle.spec_session.specs.Session.{Limits, Catalogue, Session}
 use Rattle.spec_session.specs.Batch.{BatchEnvelope}
 use Rattle.spec_explain.specs.Walk.{walk_patches}
-use Rattle.spec_explain.specs.Explain.{step_kept, applies, explain_steps}
+use Rattle.spec_explain.specs.Explain.{step_kept, applies, explain_steps, explain}
 use Rattle.session_lifecycle.specs.Meaning.{lifecycle_of, cursor_of, shell_state_of, limits_of}
 use Rattle.session_lifecycle.specs.declared.state.ShellLifecycleLimits.{ShellLifecycleLimits}
 use Rattle.session_lifecycle.specs.declared.state.ShellLocalState.{ShellLocalState}
@@ -16,11 +16,12 @@ use Rattle.local_projection_state.specs.Stores.{StoredTables}
 use Rattle.local_projection_state.specs.declared.ProjectionCounts.{ProjectionCounts}
 use Rattle.session_gates.specs.Lent.{Lent}
 use Rattle.session_gates.specs.Seen.{Seen}
-use Rattle.session_explain.specs.Reasons.{step_to}
+use Rattle.session_explain.specs.Reasons.{step_to, explanation_to, capped_to}
 use Rattle.session_explain.specs.Steps.{checks_by}
-use Rattle.session_explain.specs.BatchLaws.{checks_tell, operations_tell, lent_checked}
+use Rattle.session_explain.specs.BatchLaws.{told_is, checks_tell, operations_tell, lent_checked, lent_cap}
 use Rattle.session_explain.specs.StepsLaws.{check_steps}
 use Rattle.session_explain.specs.declared.reasons.BatchReason.{BatchReason}
+use Rattle.session_explain.specs.declared.reasons.BatchExplanation.{BatchExplanation}
 use Rattle.session_lent.specs.Head.{state_at, limits_at, counts_at}
 use Rattle.session_lent.specs.LentSession.{anchors_shaped, half_shaped}
 use Rattle.session_lent.specs.HeadLaws.{limits_told}
@@ -68,6 +69,18 @@ module _ (ed : Edition) (v : BatchEnvelope) (declared : ℕ) (set head nodes pai
   shaped_operations is {n} counted by =
       let stored : StoredTables n b a e m.projection = subst (λ (k : ProjectionCounts). StoredTables k b a e m.projection) (sym counted) (held_tables m h.held) in
       operations_tell ed m v declared set checked is (λ ps read. by m.projection ps stored read)
+
+  -- and so the call tells it, under the cap that the head tells
+  its_cap : limits.max_diagnostics_per_transition ≡ m.limits.diagnostics
+  its_cap = lent_cap ed m v declared set sees
+
+  pub shaped_checks_told : {x : BatchReason} → r ≡ Err x → {out : BatchExplanation} → out ≡ capped_to limits.max_diagnostics_per_transition r → out ≡ explanation_to (explain ed m v declared set)
+  shaped_checks_told is out = out ∙ told_is ed m v declared set its_cap (is ∙ shaped_checks is)
+
+  pub shaped_operations_told : r ≡ Ok tt → {n : ProjectionCounts} → n ≡ counts_at head → {x : Result (Unit {0}) BatchReason}
+      → ((p : Projection) (ps : List Patch) → StoredTables n b a e p → read_set ed set ≡ patches ps → x ≡ step_to (applies (walk_patches step_kept 0 p ps)))
+      → {out : BatchExplanation} → out ≡ capped_to limits.max_diagnostics_per_transition x → out ≡ explanation_to (explain ed m v declared set)
+  shaped_operations_told is counted by out = out ∙ told_is ed m v declared set its_cap (shaped_operations is counted by)
 
 -- the cap that the head tells is the session's
 module _ (head nodes pairs collections b a e : List ℕ) (limits : ShellLifecycleLimits) (limits_are : limits_of limits ≡ limits_at head) (m : Session) (h : HoldsSession head nodes pairs collections b a e m) where
