@@ -1,5 +1,5 @@
 // Findings written into a lent slice.
-ghost use Rattle.std.specs.Prelude.{◌≡◌, ◌++◌, ◌*◌, ◌/◌, ◌≤◌, min, length, take, drop};
+ghost use Rattle.std.specs.Prelude.{◌≡◌, ◌++◌, ◌*◌, ◌/◌, min, length, take, drop};
 ghost use Rattle.spec_checks.specs.Answer.{record_length};
 
 use crate::list_set::FindingsListed;

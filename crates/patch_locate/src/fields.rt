@@ -8,7 +8,7 @@ ghost use Rattle.projection_patch.specs.Meaning.{edition_of};
 ghost use Rattle.patch_locate.specs.Answers.{reading_rule_of, stop_outside, located_answer};
 ghost use Rattle.patch_locate.specs.Fields.{field_at_most, text_after, field_of, fields_of};
 
-use crate::rules::{Inside, ReadingRule, Stop};
+use crate::rules::{ReadingRule, Stop};
 use projection_patch::patch::{ProjectionPatchEdition, ProjectionPatchValue};
 use projection_patch::text_rule::TextFault;
 use projection_patch::{read_values, text_rule};

@@ -3,7 +3,7 @@ ghost use Rattle.std.specs.Prelude.{◌≡◌};
 ghost use Rattle.spec_turns.specs.Turns.{SetUp};
 ghost use Rattle.spec_replay.specs.Answers.{set_up_line, register_line, turn_line};
 ghost use Rattle.bytes_printer.specs.Prints.{Prints};
-ghost use Rattle.session_turns.specs.Meaning.{set_up_to};
+ghost use Rattle.session_turns.specs.Meaning.{set_up_to, set_up_answered};
 ghost use Rattle.session_turns.specs.Runs.{turn_answer_of};
 ghost use Rattle.script_answers.specs.TurnAnswers.{register_answer_of};
 
@@ -14,7 +14,7 @@ pub fn print_set_up(
     at: Option<usize>,
     answer: Result<SenderTurns, SetUpRefusal>,
 ) -> Option<usize>
-    ensures { (s : SetUp) → answer ≡ set_up_to s → Prints out.old at (set_up_line s) out.new result }
+    ensures { (s : SetUp) → set_up_answered answer ≡ set_up_answered (set_up_to s) → Prints out.old at (set_up_line s) out.new result }
 {
     match answer {
         Ok(_) => listing_lines::print_number_line(out, at, 74, 0),

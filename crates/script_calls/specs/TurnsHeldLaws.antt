@@ -5,9 +5,10 @@ use Rattle.std.proofs.Common.{◌∙◌, arith}
 use Rattle.std.proofs.Math.Bool.{false}
 use Rattle.std.proofs.Math.Option.{Option, none, some}
 use Rattle.std.proofs.Math.ListN.{length, drop, length-take, length-replicate}
+use Rattle.spec_lists.specs.Options.{optional_to}
 use Rattle.spec_turns.specs.Turns.{Turns, senders, most_senders}
 use Rattle.session_turns.specs.declared.SenderTurns.{SenderTurns}
-use Rattle.session_turns.specs.Meaning.{turns_of, turns_to, fresh_turns, sender_to}
+use Rattle.session_turns.specs.Meaning.{turns_of, turns_to, fresh_turns}
 use Rattle.session_turns.specs.MeaningLaws.{told_next}
 use Rattle.script_calls.specs.TurnsHeld.{held_turns, TurnsHeld}
 
@@ -45,7 +46,7 @@ module _ (s : SenderTurns) (t : Turns) (h : TurnsHeld s (some t)) where
   held_next n e = record {
     are =
         ap (λ (x : SenderTurns). turns_to x n) h.are
-        ∙ (λ i. record { senders = sym e i; waiting = n.waiting ++ behind i; last = sender_to n.last });
+        ∙ (λ i. record { senders = sym e i; waiting = n.waiting ++ behind i; last = optional_to n.last });
     few = (omega (arith, h.few.0), omega (arith, h.few.1));
   }
     where

@@ -1,5 +1,4 @@
 // Turns among senders: their set-up, registering, and the turn call.
-ghost use Rattle.std.specs.Prelude.{◌≡◌};
 ghost use Rattle.spec_session.specs.Session.{Session};
 ghost use Rattle.spec_turns.specs.Turns.{Turns, set_up};
 ghost use Rattle.spec_turns.specs.Turns as model;

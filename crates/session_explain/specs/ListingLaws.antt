@@ -36,7 +36,7 @@ module _ (ed : Edition) (set : List ℕ) {x : Result (Unit {0}) BatchReason} (to
 
   module _ (is : x ≡ Ok tt) {f : Result (Unit {0}) BatchReason} (finds : (ps : List Patch) → read_set ed set ≡ patches ps → f ≡ step_to (found ps)) where
     -- the findings, and then the operations
-    listing_read : (a : Result (Unit {0}) BatchReason) → ((ps : List Patch) → read_set ed set ≡ patches ps → a ≡ step_to (applied ps)) → first_to f a ≡ found_to (explain_listing ed set)
+    pub listing_read : (a : Result (Unit {0}) BatchReason) → ((ps : List Patch) → read_set ed set ≡ patches ps → a ≡ step_to (applied ps)) → first_to f a ≡ found_to (explain_listing ed set)
     unfolding explain_check explain_listing patches_readable reason_of patches_read
     listing_read a runs = go (locate ed set) (read_set ed set) refl (locate_agrees ed set) told
       where

@@ -3,10 +3,10 @@
 
 ghost use Rattle.std.specs.Prelude.{◌≡◌, length};
 ghost use Rattle.spec_session.specs.Session.{Session};
-ghost use Rattle.spec_explain.specs.Explain.{explain_steps, explain};
+ghost use Rattle.spec_explain.specs.Explain.{explain_steps};
 ghost use Rattle.projection_patch.specs.Meaning.{edition_of};
 ghost use Rattle.session_gates.specs.Gates.{batch_envelope_of};
-ghost use Rattle.session_explain.specs.Reasons.{step_to, explanation_to};
+ghost use Rattle.session_explain.specs.Reasons.{step_to};
 ghost use Rattle.session_lent.specs.Head.{head_numbers};
 ghost use Rattle.session_lent_explain.specs.LentExplain.{HoldsSession, ExplainView};
 

@@ -2,7 +2,7 @@
 use Rattle.std.specs.Prelude.{ℕ, ◌≡◌, Bool, true, false, not, List, [], ◌∷◌, eqb, length, get_or, if◌then◌else◌, Option, Some, None, Result, Ok, Err}
 use Rattle.spec_session.specs.Session.{Cursor}
 use Rattle.spec_turns.specs.Turns as model
-use Rattle.session_turns.specs.Meaning.{set_up_to, registration_to, turn_taken_to, turns_of}
+use Rattle.session_turns.specs.Meaning.{set_up_to, set_up_answered, registration_to, turn_taken_to, turns_of}
 use Rattle.session_turns.specs.declared.SenderTurns.{SenderTurns}
 use Rattle.session_turns.specs.declared.SetUpRefusal.{SetUpRefusal}
 use Rattle.session_turns.specs.declared.RegisterRefusal.{RegisterRefusal}
@@ -72,10 +72,6 @@ pub record TurnsCall {B : Type 0} (t : List ℕ) (answer : B) (left : List ℕ) 
 abbrev pub set_up_left : List ℕ → Result SenderTurns SetUpRefusal → List ℕ
 set_up_left t (Ok next) = turn_numbers next
 set_up_left t (Err f) = t
-
-abbrev pub set_up_answered : Result SenderTurns SetUpRefusal → Result (Unit {0}) SetUpRefusal
-set_up_answered (Ok next) = Ok tt
-set_up_answered (Err f) = Err f
 
 abbrev pub SetUpCall : ℕ → (t : List ℕ) → Option (Result (Unit {0}) SetUpRefusal) → List ℕ → Type 0
 SetUpCall senders t r t' =

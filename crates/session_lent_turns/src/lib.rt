@@ -3,7 +3,7 @@
 
 ghost use Rattle.std.specs.Prelude.{◌≡◌, length};
 ghost use Rattle.session_lifecycle.specs.Meaning.{cursor_of};
-ghost use Rattle.session_lent_turns.specs.LentTurns.{turns_numbers, named_at, turns_at, turn_flag, named_kind, named_number, turn_numbers, set_up_left, register_left, turn_left, SetUpCall, RegisterCall, TurnCall};
+ghost use Rattle.session_lent_turns.specs.LentTurns.{turns_numbers, named_at, turns_at, turn_flag, named_kind, named_number, turn_numbers, register_left, turn_left, SetUpCall, RegisterCall, TurnCall};
 
 use session_lifecycle::state::ProjectionReplayCursor;
 use session_turns::{RegisterRefusal, SenderTurns, SetUpRefusal, Turn};

@@ -33,6 +33,11 @@ unfoldable pub set_up_to : model.SetUp → Result SenderTurns SetUpRefusal
 set_up_to (model.made m) = Ok (turns_to (fresh_turns (model.senders m)) m)
 set_up_to (model.refused model.wrong_sender_count) = Err WrongSenderCount
 
+-- the answer alone, without the struct
+abbrev pub set_up_answered : Result SenderTurns SetUpRefusal → Result (Unit {0}) SetUpRefusal
+set_up_answered (Ok made) = Ok tt
+set_up_answered (Err f) = Err f
+
 abbrev pub register_refusal_of : RegisterRefusal → model.RegisterRefusal
 register_refusal_of UnknownSender = model.unknown_sender
 register_refusal_of AlreadyWaiting = model.already_waiting

@@ -3,7 +3,8 @@ use Rattle.std.specs.Prelude.{refl, Result, Some}
 use Rattle.std.proofs.Common.{sym, ap, ◌∙◌}
 use Rattle.session_turns.specs.declared.SenderTurns.{SenderTurns}
 use Rattle.session_turns.specs.declared.SetUpRefusal.{SetUpRefusal}
-use Rattle.session_lent_turns.specs.LentTurns.{set_up_left, set_up_answered}
+use Rattle.session_lent_turns.specs.LentTurns.{set_up_left}
+use Rattle.session_turns.specs.Meaning.{set_up_answered}
 use borrow.Author.Rules.{rules}
 use Rattle.session_lent_turns.proofs.set_up.Goals as goal
 

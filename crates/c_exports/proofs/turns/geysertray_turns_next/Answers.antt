@@ -5,11 +5,11 @@ use mathlib.Core.Path.{◌≡◌, subst}
 use mathlib.Core.List.{List}
 use Rattle.spec_session.specs.Session.{Cursor}
 use Rattle.session_lent_turns.specs.LentTurns.{TurnCall}
-use Rattle.session_turns.specs.declared.TurnAnswer.{TurnAnswer}
+use Rattle.session_turns.specs.declared.Turn.{Turn}
 use borrow.Author.Rules.{rules}
 use Rattle.c_exports.proofs.turns.geysertray_turns_next.Goals as goal
 
-same_cursor : {x y : Cursor} {t t' : List ℕ} {a : Option TurnAnswer} → x ≡ y → TurnCall x t a t' → TurnCall y t a t'
+same_cursor : {x y : Cursor} {t t' : List ℕ} {a : Option (Option Turn)} → x ≡ y → TurnCall x t a t' → TurnCall y t a t'
 same_cursor {t = t} {t' = t'} {a = a} is = subst (λ (cursor : Cursor). TurnCall cursor t a t') is
 
 pub returns : goal.returns
