@@ -8,4 +8,4 @@ use Rattle.script_calls.proofs.turns.set_up.Goals as goal
 pub returns : goal.returns
 returns c =
     λ m h. rw c.with_turns-next.ensures
-    (settled_step c.args.state m h c.new-made.result c.unwrap_or.result c.unwrap_or.ensures _ _ _ c.args.senders c.new-made.ensures (c.print_set_up-printed.ensures _ (ap set_up_answered c.new-made.ensures)))
+    (settled_step c.args.state m h c.new-made.result c.unwrap_or-turns.result c.unwrap_or-turns.ensures _ _ _ c.args.senders c.new-made.ensures (c.print_set_up-printed.ensures _ (ap set_up_answered c.new-made.ensures)))
