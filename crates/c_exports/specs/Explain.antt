@@ -5,10 +5,9 @@ use Rattle.std.proofs.Common.{ap, subst, ◌∙◌}
 use Rattle.spec_patch.specs.Edition.{Edition}
 use Rattle.spec_session.specs.Session.{Session}
 use Rattle.spec_session.specs.Batch.{BatchEnvelope}
-use Rattle.spec_explain.specs.Explain.{explain}
+use Rattle.spec_explain.specs.Explain.{Explanation, explain}
 use Rattle.session_explain.specs.Meaning.{explanation_of}
 use Rattle.session_explain.specs.MeaningLaws.{explanation_back}
-use Rattle.session_lent_views.specs.Views.{Viewed}
 use Rattle.session_lent_explain.specs.LentExplain.{HoldsSession, session_shaped, ExplainView}
 use Rattle.session_explain.specs.declared.reasons.BatchExplanation.{BatchExplanation}
 use Rattle.c_answers.specs.Asked.{edition_at, is_edition}
@@ -17,9 +16,10 @@ use Rattle.c_answers.specs.declared.explanations.GeysertrayExplanation.{Geysertr
 
 module _ (v : BatchEnvelope) (declared : ℕ) (set head nodes pairs collections b a e : List ℕ) where
   -- 3 for memory that cannot hold a session
-  abbrev pub ExplainedAs : Edition → GeysertrayExplanation → Type 0
-  ExplainedAs ed r =
-      Viewed (session_shaped head nodes pairs collections b a e) (not_explained 3) explanation_told (HoldsSession head nodes pairs collections b a e) (λ (m : Session). explain ed m v declared set) r
+  pub record ExplainedAs (ed : Edition) (r : GeysertrayExplanation) : Type 0 where
+    pub refused : session_shaped head nodes pairs collections b a e ≡ false → r ≡ not_explained 3
+    pub answered : session_shaped head nodes pairs collections b a e ≡ true → (x : Explanation) × (r ≡ explanation_told x)
+    pub held : (m : Session) → HoldsSession head nodes pairs collections b a e m → r ≡ explanation_told (explain ed m v declared set)
 
   -- what the call below answers, told as numbers
   told_as : (ed : Edition) (x : Option BatchExplanation) (r : GeysertrayExplanation) → ExplainView ed v declared set head nodes pairs collections b a e x → r ≡ lent_explanation_told x → ExplainedAs ed r
