@@ -22,11 +22,16 @@ pub fn print_bytes(out: &mut [u8], at: Option<usize>, text: &[u8]) -> Option<usi
     }
 }
 
+// One byte is stored by itself: a copy of a length that the compiler does not know costs a call.
 pub fn print_byte(out: &mut [u8], at: Option<usize>, byte: u8) -> Option<usize>
     ensures { Prints out.old at (byte ∷ []) out.new result }
 {
-    let one = [byte; 1];
-    print_bytes(out, at, &one)
+    let from = at?;
+    if out.len() <= from {
+        return None;
+    }
+    out[from] = byte;
+    Some(from + 1)
 }
 
 pub fn print_u64(out: &mut [u8], at: Option<usize>, n: u64) -> Option<usize>

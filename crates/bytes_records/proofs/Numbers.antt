@@ -5,6 +5,8 @@ use Prim.Native.Nat.{ℕ, zero, suc, ◌+◌, ◌-◌, ◌*◌, ◌^◌, ◌≤�
 use native.Mathlib.Omega.{arith}
 use lib.ListN.{length, drop, length-append}
 use Rattle.std.specs.Int.{w64, from_le_bytes}
+use Rattle.std.specs.Array.{IsFirstChunk}
+use Rattle.std.proofs.lemmas.List.{take_all}
 use Rattle.spec_lists.specs.Bytes.{number_of}
 use Rattle.spec_lists.proofs.BytesLaws.{number_of_append}
 use Rattle.bytes_records.specs.Moves.{zeros, overwrite_rows}
@@ -26,3 +28,10 @@ padded_number l {m} short e =
     let long : length m ≡ 8 = omega (arith, ap length behind, length-append l (zeros (8 - length l)), length_zeros (8 - length l)) in
     let none : number_of (zeros (8 - length l)) * 256 ^ length l ≡ 0 = rw (zeros_number (8 - length l)) (omega arith) in
     eight_number m long ∙ ap number_of behind ∙ omega (arith, number_of_append l (zeros (8 - length l)), none)
+
+-- eight bytes that are all there are
+pub whole_number : (l : List ℕ) {bs : List ℕ} → length l ≤ 8 → IsFirstChunk l bs 8 → from_le_bytes w64 bs ≡ number_of l
+whole_number l {bs} short chunk =
+    let whole : bs ≡ l = chunk.same ∙ take_all 8 l short in
+    let long : length bs ≡ 8 = omega (arith, ap length whole, short, chunk.enough) in
+    eight_number bs long ∙ ap number_of whole

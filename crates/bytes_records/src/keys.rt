@@ -6,11 +6,14 @@ ghost use Rattle.bytes_records.specs.Keys.{leading_numbers, order_of};
 use crate::moves;
 use std::cmp::Ordering;
 
-// The number that at most eight bytes spell.
+// The number that at most eight bytes spell. Eight are one load; a copy of fewer has a length that the compiler does not know.
 pub fn number_of(part: &[u8]) -> u64
     requires { length part.now ≤ 8 }
     ensures { result ≡ number_of part.now }
 {
+    if let Some(eight) = part.first_chunk::<8>() {
+        return u64::from_le_bytes(*eight);
+    }
     let mut bytes = [0u8; 8];
     moves::copy(part, &mut bytes);
     u64::from_le_bytes(bytes)

@@ -107,19 +107,17 @@ fn apply_readable(
             state: state_of(counts, bindings, availability, entries, lengths),
             outcome: Ok(()),
         },
-        Err(refused) => match refused {
-            SetRefusal::Operation(error) => ProjectionApplication {
-                state,
-                outcome: Err(ProjectionRefusal::Operation(error)),
-            },
-            SetRefusal::Unreadable(fault) => ProjectionApplication {
-                state,
-                outcome: Err(ProjectionRefusal::Unreadable(fault)),
-            },
-            SetRefusal::BadTables => ProjectionApplication {
-                state,
-                outcome: Err(ProjectionRefusal::Unreadable(ProjectionPatchReadFault::Malformed)),
-            },
+        Err(SetRefusal::Operation(error)) => ProjectionApplication {
+            state,
+            outcome: Err(ProjectionRefusal::Operation(error)),
+        },
+        Err(SetRefusal::Unreadable(fault)) => ProjectionApplication {
+            state,
+            outcome: Err(ProjectionRefusal::Unreadable(fault)),
+        },
+        Err(SetRefusal::BadTables) => ProjectionApplication {
+            state,
+            outcome: Err(ProjectionRefusal::Unreadable(ProjectionPatchReadFault::Malformed)),
         },
     }
 }

@@ -105,7 +105,7 @@ pub fn plan_steps(
                 Ok(SetStep::Operation(operation, next)) => (operation, next),
                 Ok(SetStep::Head(_, _)) => return Err(ProjectionPatchReadFault::Malformed.into()),
                 Ok(SetStep::End) => return Err(ProjectionPatchReadFault::Malformed.into()),
-                Err(fault) => return Err(fault.into()),
+                Err(_) => return Err(ProjectionPatchReadFault::Malformed.into()),
             };
             let at = cursor.at + value_offset(operation);
             let source = (LocalProjectionState::ENTRIES + at) as u64;

@@ -2,7 +2,7 @@
 // set. What is read is lent read-only, and a refusal leaves every byte of the new table.
 #![tactic(auto)]
 
-ghost use Rattle.std.specs.Prelude.{◌≡◌, true, List, ℕ, ◌+◌, ◌*◌, ◌≤◌, ◌<◌, length};
+ghost use Rattle.std.specs.Prelude.{◌≡◌, true, List, ℕ, ◌+◌, ◌*◌, ◌≤◌, ◌<◌, max, length};
 ghost use Rattle.spec_lists.specs.Lists.{All};
 ghost use Rattle.spec_patch.specs.Sizes.{projection_bindings, projection_availabilities, projection_entries};
 ghost use Rattle.spec_projection.specs.Projection.{NodeAvailability, Projection};
@@ -156,6 +156,13 @@ fn write_rows(
     bytes_records::moves::clear(&mut to[used..]);
 }
 
+// The greater of two counts: the rows that are used now, or were.
+pub fn greater(a: usize, b: usize) -> usize
+    ensures { result ≡ max a b }
+{
+    a.max(b)
+}
+
 // Writes the rows of a plan into a table of so many places, of which so many were used. Answers whether it is that table, and has a place
 // for each.
 fn write_table(
@@ -183,7 +190,7 @@ fn write_table(
     if to.len() != capacity * width {
         return false;
     }
-    let size = count.max(used) * width;
+    let size = greater(count, used) * width;
     write_rows(key, plan, count, from, set, edition, &mut to[0..size]);
     true
 }
@@ -267,7 +274,7 @@ pub fn write_availabilities(plan: &[u8], count: usize, used: usize, to: &mut [u8
     if to.len() != LocalProjectionState::AVAILABILITY_BYTES {
         return false;
     }
-    let size = count.max(used) * panel_rows::AVAILABILITY_WIDTH;
+    let size = greater(count, used) * panel_rows::AVAILABILITY_WIDTH;
     bytes_records::moves::copy(&plan[0..size], &mut to[0..size]);
     true
 }

@@ -62,6 +62,7 @@ pub fn open_set(
 }
 
 // The operation at a cursor.
+#[inline(always)]
 fn operation_step(
     set: &[u8],
     cursor: SetCursor,
@@ -85,6 +86,7 @@ fn operation_step(
 }
 
 // The patch's head at a cursor.
+#[inline(always)]
 fn head_step(set: &[u8], cursor: SetCursor) -> Result<SetStep, ProjectionPatchReadFault>
     requires { 0 < cursor.patches_left }
     ensures is { result ≡ head_step cursor set.now }
@@ -105,10 +107,11 @@ fn head_step(set: &[u8], cursor: SetCursor) -> Result<SetStep, ProjectionPatchRe
     Ok(SetStep::Head(head, next))
 }
 
-// What stands at a cursor. Texts are checked where the walk is strict. The set, strictness and edition stay apart from the cursor, which callers keep
-// by value without a borrow of the set.
+// What stands at a cursor. Texts are checked where the walk is strict. A walk that reads has this in its own loop, so that no step goes through
+// memory there.
+#[inline(always)]
 #[tactic(auto, unfolding(crate::specs::Steps::step_answer))]
-pub fn next_step(
+fn step_at(
     set: &[u8],
     cursor: SetCursor,
     strict: bool,
@@ -124,6 +127,20 @@ pub fn next_step(
         return head_step(set, cursor);
     }
     Ok(SetStep::End)
+}
+
+// What stands at a cursor. Texts are checked where the walk is strict. The set, strictness and edition stay apart from the cursor, which callers keep
+// by value without a borrow of the set.
+pub fn next_step(
+    set: &[u8],
+    cursor: SetCursor,
+    strict: bool,
+    edition: ProjectionPatchEdition,
+) -> Result<SetStep, ProjectionPatchReadFault>
+    ensures is { result ≡ step_answer strict (edition_of edition) cursor set.now }
+    ensures within { StepWithin cursor (length set.now) result }
+{
+    step_at(set, cursor, strict, edition)
 }
 
 // The answer behind the last step, in a set of so many bytes.
@@ -154,7 +171,7 @@ fn read_steps(
     let mut cursor = first;
     let mut operations: usize = 0;
     loop {
-        match next_step(set, cursor, true, edition)? {
+        match step_at(set, cursor, true, edition)? {
             SetStep::Head(_, next) => {
                 cursor = next;
             }

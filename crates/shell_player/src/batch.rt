@@ -74,21 +74,11 @@ impl ShellSession {
             used,
         );
         let result = answers::concluded(cap, change, cursor, envelope.sequence_no);
-        match change {
-            Ok(n) => {
-                let moved = states::advanced(state, envelope.sequence_no);
-                let session = tables::with_tables(
-                    self,
-                    moved,
-                    n,
-                    bindings,
-                    availability,
-                    entries,
-                    lengths,
-                );
-                batch_of(session, result)
-            }
-            Err(_) => batch_of(self, result),
-        }
+        let Ok(n) = change else {
+            return batch_of(self, result);
+        };
+        let moved = states::advanced(state, envelope.sequence_no);
+        let session = tables::with_tables(self, moved, n, bindings, availability, entries, lengths);
+        batch_of(session, result)
     }
 }

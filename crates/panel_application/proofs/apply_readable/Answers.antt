@@ -27,14 +27,14 @@ returns-in-Ok c =
       kept = search rules;
     }
 
-pub returns-in-Operation : goal.returns-in-Operation
-returns-in-Operation c =
-    record { steps = (λ ps p readable s. steps_refused c.apply_set.new.to_bindings c.apply_set.new.to_availability c.apply_set.new.to_entries c.apply_set.new.to_lengths (apply_steps p (replay_steps ps)) (c.apply_set.ensures.changed p ps s.tables readable (ready (goal.at.returns-in-Operation c).After-apply_set)) c.args.state _ (c.in-Err.is ∙ ap Err c.in-Operation.is)); kept = refl }
+pub returns-in-Err-Operation : goal.returns-in-Err-Operation
+returns-in-Err-Operation c =
+    record { steps = (λ ps p readable s. rw c.in-Err-Operation.field-0-is (steps_refused c.apply_set.new.to_bindings c.apply_set.new.to_availability c.apply_set.new.to_entries c.apply_set.new.to_lengths (apply_steps p (replay_steps ps)) (c.apply_set.ensures.changed p ps s.tables readable (ready (goal.at.returns-in-Err-Operation c).After-apply_set)) c.args.state _ (c.in-Err-Operation.is ∙ ap Err c.in-Err-Operation.field-0-is))); kept = refl }
 
-pub returns-in-Unreadable : goal.returns-in-Unreadable
-returns-in-Unreadable c =
-    record { steps = (λ ps p readable s. absurd (set_reads c.apply_set.new.to_bindings c.apply_set.new.to_availability c.apply_set.new.to_entries c.apply_set.new.to_lengths (apply_steps p (replay_steps ps)) (c.apply_set.ensures.changed p ps s.tables readable (ready (goal.at.returns-in-Unreadable c).After-apply_set)) _ (c.in-Err.is ∙ ap Err c.in-Unreadable.is))); kept = refl }
+pub returns-in-Err-Unreadable : goal.returns-in-Err-Unreadable
+returns-in-Err-Unreadable c =
+    record { steps = (λ ps p readable s. absurd (set_reads c.apply_set.new.to_bindings c.apply_set.new.to_availability c.apply_set.new.to_entries c.apply_set.new.to_lengths (apply_steps p (replay_steps ps)) (c.apply_set.ensures.changed p ps s.tables readable (ready (goal.at.returns-in-Err-Unreadable c).After-apply_set)) _ (c.in-Err-Unreadable.is ∙ ap Err c.in-Err-Unreadable.field-0-is))); kept = refl }
 
-pub returns-in-BadTables : goal.returns-in-BadTables
-returns-in-BadTables c =
-    record { steps = (λ ps p readable s. absurd (set_fits c.apply_set.new.to_bindings c.apply_set.new.to_availability c.apply_set.new.to_entries c.apply_set.new.to_lengths (apply_steps p (replay_steps ps)) (c.apply_set.ensures.changed p ps s.tables readable (ready (goal.at.returns-in-BadTables c).After-apply_set)) (c.in-Err.is ∙ ap Err c.in-BadTables.is))); kept = refl }
+pub returns-in-Err-BadTables : goal.returns-in-Err-BadTables
+returns-in-Err-BadTables c =
+    record { steps = (λ ps p readable s. absurd (set_fits c.apply_set.new.to_bindings c.apply_set.new.to_availability c.apply_set.new.to_entries c.apply_set.new.to_lengths (apply_steps p (replay_steps ps)) (c.apply_set.ensures.changed p ps s.tables readable (ready (goal.at.returns-in-Err-BadTables c).After-apply_set)) (c.in-Err-BadTables.is ∙ ap Err c.in-Err-BadTables.field-0-is))); kept = refl }

@@ -87,12 +87,12 @@ returns-then-is_empty c =
       },
     ) in record { holding = all.0; whatever = all.1 }
 
-pub returns-in-Err-change : goal.returns-in-Err-change
+pub returns-in_default-change : goal.returns-in_default-change
 unfolding gate_of
-returns-in-Err-change c =
+returns-in_default-change c =
     let all = let gate = ap gate_of (sym c.in_default.is) in
-    told _ _ c.batch_of-in-Err-change.ensures (
-      record { became = λ m h. batch_commits _ m h _ _ _ _ _ (gate ∙ c.check_session-gate.ensures.checked m (struct_seen _ m h)) (λ ps reads count. commits_stopped _ m h _ ps c.apply_set-change.result _ _ (refused_stopped c.apply_set-change.result c.in-Err-change.is) (became (goal.at.returns-in-Err-change c).After-apply_set-change m ps h reads) c.concluded-result.ensures) },
+    told _ _ c.batch_of-in_default-change.ensures (
+      record { became = λ m h. batch_commits _ m h _ _ _ _ _ (gate ∙ c.check_session-gate.ensures.checked m (struct_seen _ m h)) (λ ps reads count. commits_stopped _ m h _ ps c.apply_set-change.result _ _ (refused_stopped c.apply_set-change.result c.in_default-change.is) (became (goal.at.returns-in_default-change c).After-apply_set-change m ps h reads) c.concluded-result.ensures) },
       record {
         kept = λ n. refl;
         row = change_row _ _ _ _ c.apply_set-change.result c.concluded-result.ensures;
@@ -100,17 +100,17 @@ returns-in-Err-change c =
       },
     ) in record { holding = all.0; whatever = all.1 }
 
-pub returns-in-Ok : goal.returns-in-Ok
+pub returns : goal.returns
 unfolding gate_of
-returns-in-Ok c =
+returns c =
     let all = let gate = ap gate_of (sym c.in_default.is) in
-    told _ _ c.batch_of-in-Ok.ensures (
+    told _ _ c.batch_of-2.ensures (
       record {
-        became = λ m h. batch_commits _ m h _ _ _ _ _ (gate ∙ c.check_session-gate.ensures.checked m (struct_seen _ m h)) (λ ps reads count. handed (goal.at.returns-in-Ok c).After-with_tables-session m ps h reads (λ none. false≢true (sym (sym c.is_empty.ensures ∙ c.if-is_empty.false) ∙ eq-eqb _ 0 none)));
+        became = λ m h. batch_commits _ m h _ _ _ _ _ (gate ∙ c.check_session-gate.ensures.checked m (struct_seen _ m h)) (λ ps reads count. handed (goal.at.returns c).After-with_tables-session m ps h reads (λ none. false≢true (sym (sym c.is_empty.ensures ∙ c.if-is_empty.false) ∙ eq-eqb _ 0 none)));
       },
       record {
-        kept = kept_applied _ _ _ (answered (goal.at.returns-in-Ok c).After-with_tables-session);
-        row = applied_row (answered (goal.at.returns-in-Ok c).After-with_tables-session);
+        kept = kept_applied _ _ _ (answered (goal.at.returns c).After-with_tables-session);
+        row = applied_row (answered (goal.at.returns c).After-with_tables-session);
         preflight = λ f n h. never_passes (sym (gate ∙ c.check_session-gate.ensures.preflight f n h));
       },
     ) in record { holding = all.0; whatever = all.1 }
