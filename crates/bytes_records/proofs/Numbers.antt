@@ -1,33 +1,44 @@
--- The library's number of eight bytes: that of the first bytes, where zeros stand behind them.
-use mathlib.Core.Path.{◌≡◌, refl, ap, ◌∙◌}
-use mathlib.Core.List.{List, [], ◌∷◌, ◌++◌}
-use Prim.Native.Nat.{ℕ, zero, suc, ◌+◌, ◌-◌, ◌*◌, ◌^◌, ◌≤◌}
+-- What the loop that reads a number has read at each turn, and the library's number of eight bytes.
+use mathlib.Core.Path.{◌≡◌, sym, ap, ◌∙◌}
+use mathlib.Core.List.{List, [], ◌∷◌}
+use Prim.Native.Nat.{ℕ, suc, ◌+◌, ◌-◌, ◌*◌, ◌^◌, ◌≤◌, ◌<◌}
 use native.Mathlib.Omega.{arith}
-use lib.ListN.{length, drop, length-append}
+use lib.ListN.{length, drop, get_or, length-drop}
+use lib.Seq.{drop-cons, drop-length}
 use Rattle.std.specs.Int.{w64, from_le_bytes}
 use Rattle.std.specs.Array.{IsFirstChunk}
 use Rattle.std.proofs.lemmas.List.{take_all}
-use Rattle.spec_lists.specs.Bytes.{number_of}
-use Rattle.spec_lists.proofs.BytesLaws.{number_of_append}
-use Rattle.bytes_records.specs.Moves.{zeros, overwrite_rows}
-use Rattle.bytes_records.specs.MovesLaws.{length_zeros, drop_zeros}
+use Rattle.spec_lists.specs.Bytes.{Bytes, number_of}
+use Rattle.spec_lists.proofs.BytesLaws.{bytes_drop, number_of_lt}
 
-zeros_number : (k : ℕ) → number_of (zeros k) ≡ 0
+-- no byte is read
+pub number_start : (l : List ℕ) → 0 ≡ number_of (drop (length l) l)
 unfolding number_of
-zeros_number zero = refl
-zeros_number (suc k) = omega (arith, zeros_number k)
+number_start l = rw drop-length
+
+-- one more byte in front
+pub number_turn : (l : List ℕ) (i x b : ℕ) → 0 < i → i ≤ length l → x ≡ number_of (drop i l) → b ≡ get_or l (i - 1) 0 → x * 256 + b ≡ number_of (drop (i - 1) l)
+unfolding number_of
+number_turn l i x b some within read byte =
+    let next : suc (i - 1) ≡ i = omega arith in
+    let below : i - 1 < length l = omega arith in
+    let front : number_of (drop (i - 1) l) ≡ get_or l (i - 1) 0 + 256 * number_of (drop (suc (i - 1)) l) = rw (drop-cons l (i - 1) 0) in
+    let rest : number_of (drop (suc (i - 1)) l) ≡ number_of (drop i l) = ap (λ (k : ℕ). number_of (drop k l)) next in
+    omega arith
+
+pub number_end : (l : List ℕ) (i x : ℕ) → i ≤ 0 → x ≡ number_of (drop i l) → x ≡ number_of l
+number_end l i x none read =
+    let e : i ≡ 0 = omega arith in
+    read ∙ ap (λ (k : ℕ). number_of (drop k l)) e
+
+-- what is read of eight bytes leaves room for one more
+pub rest_small : (l : List ℕ) (i : ℕ) → Bytes l → length l ≤ 8 → 0 < i → number_of (drop i l) < 2 ^ 56
+rest_small l i h short some = number_of_lt 7 (drop i l) (bytes_drop i l h) (simp length-drop (omega arith))
 
 eight_number : (bs : List ℕ) → length bs ≡ 8 → from_le_bytes w64 bs ≡ number_of bs
 unfolding number_of
 eight_number (a ∷ b ∷ c ∷ d ∷ e ∷ f ∷ g ∷ h ∷ []) q = omega arith
 eight_number bs q = absurd (omega arith)
-
-pub padded_number : (l : List ℕ) {m : List ℕ} → length l ≤ 8 → m ≡ overwrite_rows l (zeros 8) → from_le_bytes w64 m ≡ number_of l
-padded_number l {m} short e =
-    let behind : m ≡ l ++ zeros (8 - length l) = e ∙ ap (λ (z : List ℕ). l ++ z) (drop_zeros (length l) 8 short) in
-    let long : length m ≡ 8 = omega (arith, ap length behind, length-append l (zeros (8 - length l)), length_zeros (8 - length l)) in
-    let none : number_of (zeros (8 - length l)) * 256 ^ length l ≡ 0 = rw (zeros_number (8 - length l)) (omega arith) in
-    eight_number m long ∙ ap number_of behind ∙ omega (arith, number_of_append l (zeros (8 - length l)), none)
 
 -- eight bytes that are all there are
 pub whole_number : (l : List ℕ) {bs : List ℕ} → length l ≤ 8 → IsFirstChunk l bs 8 → from_le_bytes w64 bs ≡ number_of l

@@ -3,7 +3,6 @@ ghost use Rattle.std.specs.Prelude.{[], ◌∷◌, ◌≡◌, ◌+◌, ◌≤◌
 ghost use Rattle.spec_lists.specs.Bytes.{number_of};
 ghost use Rattle.bytes_records.specs.Keys.{leading_numbers, order_of};
 
-use crate::moves;
 use std::cmp::Ordering;
 
 // The number that at most eight bytes spell. Eight are one load; a copy of fewer has a length that the compiler does not know.
@@ -14,9 +13,21 @@ pub fn number_of(part: &[u8]) -> u64
     if let Some(eight) = part.first_chunk::<8>() {
         return u64::from_le_bytes(*eight);
     }
-    let mut bytes = [0u8; 8];
-    moves::copy(part, &mut bytes);
-    u64::from_le_bytes(bytes)
+    number_of_few(part)
+}
+
+// The same, byte by byte: where the compiler knows how many there are, no loop is left.
+fn number_of_few(part: &[u8]) -> u64
+    requires { length part.now ≤ 8 }
+    ensures { result ≡ number_of part.now }
+{
+    let mut x: u64 = 0;
+    let mut i = part.len();
+    while 0 < i {
+        i -= 1;
+        x = x * 256 + u64::from(part[i]);
+    }
+    x
 }
 
 // How the two numbers that row begins with stand to id and second: eight bytes, and so many behind them. The library's `cmp` was tried: a search

@@ -14,11 +14,11 @@ pub fn key_part(row: &[u8], at: usize) -> &[u8]
     row.get(..at).unwrap_or(row)
 }
 
-// What stands from an offset on.
+// What stands from an offset on. Behind the end it is an empty part of the row and not `&[]`: the compiler keeps one address so.
 pub fn value_part(row: &[u8], at: usize) -> &[u8]
     ensures { result.now ≡ drop at row.now }
 {
-    row.get(at..).unwrap_or(&[])
+    row.get(at..).unwrap_or(&row[..0])
 }
 
 // The number of so many bytes from an offset on.
